@@ -15,7 +15,7 @@ case-lt (Speed x) = omega arith
 case-lt (Tension x) = omega arith
 case-lt (Count n) = omega arith
 
-low-lt : (s : Setting) → setting-held s → setting-low s < 2 ^ 32
+pub low-lt : (s : Setting) → setting-held s → setting-low s < 2 ^ 32
 low-lt Off h = omega arith
 low-lt (Speed x) h = toBits-lt binary32 x h
 low-lt (Tension x) h = toBits-lt binary32 x h

@@ -50,6 +50,6 @@ pub impl Kind for Setting as SettingKind {
     }
 
     fn blank() -> Setting {
-        Setting::Off
+        setting_by(0, 0)
     }
 }

@@ -42,12 +42,12 @@ module _ {V : Type 0} where
 
 module _ {V : Type 0} (blank : V) where
   -- one item: its lock is written, then its count swapped for 0
-  pub cleared-one : (cs locked counted : List (Record V)) (i n : ℕ) (wrote swapped : Bool) → i < length cs → n ≡ cell-at blank cs i .count
-      → wrote ≡ stores-lock cs i free → locked ≡ change wrote (with-lock free) blank cs i
-      → swapped ≡ swaps-count blank locked i n 0 → counted ≡ change swapped (with-count 0) blank locked i
+  pub cleared-one : (cs locked counted : List (Record V)) (i : ℕ) → i < length cs
+      → locked ≡ change (stores-lock cs i free) (with-lock free) blank cs i
+      → counted ≡ change (swaps-count blank locked i (cell-at blank locked i .count) 0) (with-count 0) blank locked i
       → counted ≡ set cs i (cleared (cell-at blank cs i))
-  cleared-one cs locked counted i n wrote swapped h en ew el es ec =
-      ec ∙ ap (λ (b : Bool). change b (with-count 0) blank locked i) (es ∙ swaps)
+  cleared-one cs locked counted i h el ec =
+      ec ∙ ap (λ (b : Bool). change b (with-count 0) blank locked i) swaps
       ∙ ap (set locked i) (ap (with-count 0) same) ∙ ap (λ ls. set ls i (cleared (cell-at blank cs i))) is
       ∙ set-set cs i free-now (cleared (cell-at blank cs i))
     where
@@ -55,7 +55,7 @@ module _ {V : Type 0} (blank : V) where
       free-now = with-lock free (cell-at blank cs i)
 
       is : locked ≡ set cs i free-now
-      is = el ∙ ap (λ (b : Bool). change b (with-lock free) blank cs i) (ew ∙ and-from (has cs i) true (lt-ltb i (length cs) h) refl)
+      is = el ∙ ap (λ (b : Bool). change b (with-lock free) blank cs i) (and-from (has cs i) true (lt-ltb i (length cs) h) refl)
 
       same : cell-at blank locked i ≡ free-now
       same = ap (λ ls. cell-at blank ls i) is ∙ getD-set-same cs i free-now (absent blank) h
@@ -63,8 +63,10 @@ module _ {V : Type 0} (blank : V) where
       there : has locked i ≡ true
       there = lt-ltb i (length locked) (omega (arith, ap length is, length-set cs i free-now))
 
-      swaps : swaps-count blank locked i n 0 ≡ true
-      swaps = and-from (has locked i && true) (eqb (cell-at blank locked i .count) n) (and-from (has locked i) true there refl) (eq-eqb (cell-at blank locked i .count) n (ap (λ c. c .count) same ∙ sym en))
+      swaps : swaps-count blank locked i (cell-at blank locked i .count) 0 ≡ true
+      swaps =
+          and-from (has locked i && true) (eqb (cell-at blank locked i .count) (cell-at blank locked i .count)) (and-from (has locked i) true there refl)
+          (eq-eqb (cell-at blank locked i .count) (cell-at blank locked i .count) refl)
 
   more : (n : ℕ) (cs : List (Record V)) → set (clearing n cs) n (cleared (cell-at blank (clearing n cs) n)) ≡ clearing (suc n) cs
   unfolding clearing

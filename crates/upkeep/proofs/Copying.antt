@@ -15,8 +15,8 @@ use Rattle.upkeep.specs.Upkeep.{copied}
 
 module _ {V : Type 0} (blank : V) where
   -- a write of a value, where the item that the bank has not got changes nothing
-  put : (cs : List (Record V)) (i : ℕ) (v : V) (done : Bool) → done ≡ has cs i → change done (with-value v) blank cs i ≡ set cs i (with-value v (cell-at blank cs i))
-  put cs i v done e = ap (λ (b : Bool). change b (with-value v) blank cs i) e ∙ go (cases-lt i (length cs))
+  put : (cs : List (Record V)) (i : ℕ) (v : V) → change (has cs i) (with-value v) blank cs i ≡ set cs i (with-value v (cell-at blank cs i))
+  put cs i v = go (cases-lt i (length cs))
     where
       go : (i < length cs) ⊎ (length cs ≤ i) → change (has cs i) (with-value v) blank cs i ≡ set cs i (with-value v (cell-at blank cs i))
       go (inl h) = ap (λ (b : Bool). change b (with-value v) blank cs i) (lt-ltb i (length cs) h)
@@ -33,10 +33,10 @@ module _ {V : Type 0} (blank : V) where
   more (suc n) (f ∷ fs) [] h = refl
   more (suc n) (f ∷ fs) (c ∷ cs) h = ap (λ ds. with-value (f .value) c ∷ ds) (more n fs cs (omega arith))
 
-  pub copied-more : (n : ℕ) (fs cs ds : List (Record V)) (v : V) (done : Bool) → n < length fs → ds ≡ copied (take n fs) cs → v ≡ cell-at blank fs n .value → done ≡ has ds n
-      → change done (with-value v) blank ds n ≡ copied (take (n + 1) fs) cs
-  copied-more n fs cs ds v done h e ev ed =
-      put ds n v done ed ∙ ap (λ w. set ds n (with-value w (cell-at blank ds n))) ev
+  pub copied-more : (n : ℕ) (fs cs ds : List (Record V)) → n < length fs → ds ≡ copied (take n fs) cs
+      → change (has ds n) (with-value (cell-at blank fs n .value)) blank ds n ≡ copied (take (n + 1) fs) cs
+  copied-more n fs cs ds h e =
+      put ds n (cell-at blank fs n .value)
       ∙ ap (λ es. set es n (with-value (cell-at blank fs n .value) (cell-at blank es n))) e
       ∙ more n fs cs h ∙ ap (λ (m : ℕ). copied (take m fs) cs) (sym (add-one n))
 

@@ -3,7 +3,7 @@ ghost use lib.ListN.{length, set};
 ghost use mathlib.Core.List.{map};
 ghost use mathlib.Core.Path.{_≡_};
 ghost use Prim.Native.Nat.{_<_};
-ghost use Rattle.bank.specs.Cells.{cell-at};
+ghost use Rattle.bank.specs.Cells.{cell-at, free, has, stores-lock, swaps-count, change, with-lock, with-value, with-count};
 ghost use Rattle.upkeep.specs.Upkeep.{cleared, copied};
 use bank::Bank;
 use bank::Lock;
@@ -18,14 +18,29 @@ pub fn clear<B: Bank>(bank: &mut B)
     }
 }
 
-// Clears one item. A count has no write of its own, so it is read and then swapped.
+// Clears one item.
 fn clear_item<B: Bank>(bank: &mut B, item: usize)
     requires { ⌜ item < length (cells (now bank)) ⌝ }
     ensures after { λ _. ⌜ cells (now (bank .exit)) ≡ set (cells (now (bank .entry))) item (cleared (cell-at (Value·Kind .blank) (cells (now (bank .entry))) item)) ⌝ }
     ensures stays { λ _. ⌜ places (now (bank .exit)) ≡ places (now (bank .entry)) ⌝ }
 {
-    let count = bank.read_count(item);
+    free_lock(bank, item);
+    zero_count(bank, item);
+}
+
+fn free_lock<B: Bank>(bank: &mut B, item: usize)
+    ensures after { λ _. ⌜ cells (now (bank .exit)) ≡ change (stores-lock (cells (now (bank .entry))) item free) (with-lock free) (Value·Kind .blank) (cells (now (bank .entry))) item ⌝ }
+    ensures stays { λ _. ⌜ places (now (bank .exit)) ≡ places (now (bank .entry)) ⌝ }
+{
     let _ = bank.write_lock(item, Lock::FREE);
+}
+
+// A count has no write of its own, so it is read and then swapped.
+fn zero_count<B: Bank>(bank: &mut B, item: usize)
+    ensures after { λ _. ⌜ cells (now (bank .exit)) ≡ change (swaps-count (Value·Kind .blank) (cells (now (bank .entry))) item (cell-at (Value·Kind .blank) (cells (now (bank .entry))) item .count) 0) (with-count 0) (Value·Kind .blank) (cells (now (bank .entry))) item ⌝ }
+    ensures stays { λ _. ⌜ places (now (bank .exit)) ≡ places (now (bank .entry)) ⌝ }
+{
+    let count = bank.read_count(item);
     let _ = bank.swap_count(item, count, 0);
 }
 
@@ -35,6 +50,13 @@ pub fn copy_values<A: Bank, B: Bank<Value = A::Value>>(from: &A, to: &mut B)
     ensures stays { λ _. ⌜ B·Bank .places (now (to .exit)) ≡ B·Bank .places (now (to .entry)) ⌝ }
 {
     for item in 0..from.items() {
-        let _ = to.write_value(item, from.read_value(item));
+        copy_value(from, to, item);
     }
+}
+
+fn copy_value<A: Bank, B: Bank<Value = A::Value>>(from: &A, to: &mut B, item: usize)
+    ensures after { λ _. ⌜ B·Bank .cells (now (to .exit)) ≡ change (has (B·Bank .cells (now (to .entry))) item) (with-value (cell-at (Value·Kind .blank) (A·Bank .cells (now (from .entry))) item .value)) (Value·Kind .blank) (B·Bank .cells (now (to .entry))) item ⌝ }
+    ensures stays { λ _. ⌜ B·Bank .places (now (to .exit)) ≡ B·Bank .places (now (to .entry)) ⌝ }
+{
+    let _ = to.write_value(item, from.read_value(item));
 }
