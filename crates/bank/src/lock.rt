@@ -1,6 +1,6 @@
 //! Locks.
 ghost use mathlib.Core.Path.{_≡_};
-ghost use Rattle.bank.specs.Cells.{storable, same-lock};
+ghost use Rattle.bank.specs.Cells.{free, storable, same-lock};
 use crate::limits::MOST_PROCESSES;
 use crate::limits::MOST_SEQUENCE;
 
@@ -13,10 +13,14 @@ pub struct Lock {
 
 impl Lock {
     /// No owner, and the number 0.
-    pub const FREE: Lock = Lock {
-        owner: 0,
-        sequence: 0,
-    };
+    pub const fn free() -> Lock
+        ensures { λ r. ⌜ r ≡ free ⌝ }
+    {
+        Lock {
+            owner: 0,
+            sequence: 0,
+        }
+    }
 
     /// Whether a bank stores it: its owner is at most 16 and its number at most 2^56 − 1.
     pub fn is_storable(self) -> bool

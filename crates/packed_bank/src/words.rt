@@ -44,7 +44,7 @@ pub fn read_lock_in(words: &[u64], item: usize) -> Lock
     if item < items_in(words) {
         return lock_from(words[ITEM_WORDS * item]);
     }
-    Lock::FREE
+    Lock::free()
 }
 
 pub fn read_count_in(words: &[u64], item: usize) -> u8

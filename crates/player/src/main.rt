@@ -79,7 +79,7 @@ fn main(rt: LibcRuntime) -> Result<(), AnyError> {
     rt.stdin().take(MOST_INPUT).read_to_string(&mut input)?;
     let blank = Record {
         value: Setting::Off,
-        lock: Lock::FREE,
+        lock: Lock::free(),
         count: 0,
     };
     let mut records = [blank; SETTINGS];

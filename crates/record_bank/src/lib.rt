@@ -33,7 +33,7 @@ fn record_at<V: Kind>(records: &[Record<V>], item: usize) -> Record<V>
     }
     Record {
         value: V::blank(),
-        lock: Lock::FREE,
+        lock: Lock::free(),
         count: 0,
     }
 }

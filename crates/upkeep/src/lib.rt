@@ -32,7 +32,7 @@ fn free_lock<B: Bank>(bank: &mut B, item: usize)
     ensures after { λ _. ⌜ cells (now (bank .exit)) ≡ change (stores-lock (cells (now (bank .entry))) item free) (with-lock free) (Value·Kind .blank) (cells (now (bank .entry))) item ⌝ }
     ensures stays { λ _. ⌜ places (now (bank .exit)) ≡ places (now (bank .entry)) ⌝ }
 {
-    let _ = bank.write_lock(item, Lock::FREE);
+    let _ = bank.write_lock(item, Lock::free());
 }
 
 // A count has no write of its own, so it is read and then swapped.

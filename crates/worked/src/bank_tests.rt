@@ -24,7 +24,7 @@ fn lock(owner: u8, sequence: u64) -> Lock {
 fn record<V: Kind>(value: V) -> Record<V> {
     Record {
         value,
-        lock: Lock::FREE,
+        lock: Lock::free(),
         count: 0,
     }
 }

@@ -1,0 +1,14 @@
+use native.Mathlib.Omega.{arith}
+use lib.ListN.{length-set}
+use Rattle.table.proofs.Walks.{items-more, items-all}
+use Rattle.table.proofs.sets.items_in.Needs as need
+
+pub loop-at-again : need.loop-at-again
+loop-at-again g c = (
+  simp length-set (c .loop-at .inv .0),
+  items-more (c .args .set .now) (c .loop-at .at) (c .index-set-at .result) (c .loop-at .items) (omega (arith, c .min-at-end .ensures, c .loop-at-test .taken))
+      (omega (arith, c .min-at-end .ensures, c .loop-at-test .taken, c .loop-at .inv .0)) (c .loop-at .inv .1),
+)
+
+pub returns : need.returns
+returns g c = items-all (c .args .set .now) (c .loop-at .at) (c .loop-at .items) (omega (arith, c .min-at-end .ensures, c .loop-at-test .left, c .loop-at .kept .at-end)) (c .loop-at .inv .0) (c .loop-at .inv .1)

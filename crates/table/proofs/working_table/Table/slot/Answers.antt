@@ -1,0 +1,10 @@
+use mathlib.Core.Path.{ap}
+use denote.Ref.{now}
+use lib.ListN.{length}
+use native.Mathlib.Omega.{arith}
+use Rattle.table.proofs.Walks.{slot-le, set-le}
+use Rattle.table.proofs.working_table.Table.slot.Needs as need
+
+pub cast-result : need.cast-result
+cast-result g c =
+    omega (arith, c .slot-in .ensures, slot-le (c .args .item) (now (c .set-in .result)), ap length (c .set-in .ensures), set-le (c .args .self .now .entries .now) (c .args .process) (c .args .part) (c .args .size), c .fits .size .fits)

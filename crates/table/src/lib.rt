@@ -1,0 +1,9 @@
+//! The working table: what each process has read and is going to write, over entries that the caller lends.
+pub mod entry;
+pub mod sets;
+pub mod working_table;
+
+pub use entry::ENTRIES;
+pub use entry::Entry;
+pub use entry::Part;
+pub use working_table::Table;
