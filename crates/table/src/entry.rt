@@ -33,3 +33,10 @@ impl Part {
         }
     }
 }
+
+/// How many entries of a process's parts are its read set and its write set.
+#[derive(Clone, Copy)]
+pub struct Sizes {
+    pub reads: u8,
+    pub writes: u8,
+}

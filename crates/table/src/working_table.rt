@@ -3,11 +3,13 @@ ghost use denote.Ref.{now as held-by, name as name-of};
 ghost use lib.ListN.{length, set, take};
 ghost use mathlib.Core.List.{map};
 ghost use mathlib.Core.Path.{_≡_};
-ghost use Prim.Native.Nat.{_+_};
+ghost use Prim.Native.Nat.{_+_, min};
 ghost use Rattle.bank.specs.Limits.{set-size};
-ghost use Rattle.table.specs.Sets.{entry-at, start, set-of, find, slot, lowest, item-of};
+ghost use Rattle.table.specs.Sets.{entry-at, start, item-of};
+ghost use Rattle.table.specs.Tasks.{task, in-reads, in-writes, write-slot, next-item, unlock-sequence};
 use crate::entry::Entry;
 use crate::entry::Part;
+use crate::entry::Sizes;
 use crate::sets::entry_in;
 use crate::sets::find_in;
 use crate::sets::items_in;
@@ -55,38 +57,69 @@ impl<'a, V: Kind> Table<'a, V> {
         put_in(self.entries, part.start(process) + at as usize, entry);
     }
 
-    /// The first entry of a set that has the item.
-    pub fn find(&self, process: u8, part: Part, size: u8, item: u8) -> Option<Entry<V>>
-        ensures { λ r. ⌜ r ≡ find item (set-of (now (now (self .entry) .entries)) process part size) ⌝ }
+    /// The entry of the read set that has the item.
+    pub fn in_reads(&self, process: u8, sizes: Sizes, item: u8) -> Option<Entry<V>>
+        ensures { λ r. ⌜ r ≡ in-reads (task blank (now (now (self .entry) .entries)) process sizes) item ⌝ }
     {
-        find_in(set_in(self.entries, process, part, size), item)
+        find_in(
+            set_in(self.entries, process, Part::Reads, sizes.reads),
+            item,
+        )
     }
 
-    /// Where the first entry of a set that has the item stands, or where the set ends.
-    pub fn slot(&self, process: u8, part: Part, size: u8, item: u8) -> u8
-        ensures { λ r. ⌜ r ≡ slot item (set-of (now (now (self .entry) .entries)) process part size) ⌝ }
+    /// The entry of the write set that has the item.
+    pub fn in_writes(&self, process: u8, sizes: Sizes, item: u8) -> Option<Entry<V>>
+        ensures { λ r. ⌜ r ≡ in-writes (task blank (now (now (self .entry) .entries)) process sizes) item ⌝ }
     {
-        slot_in(set_in(self.entries, process, part, size), item) as u8
+        find_in(
+            set_in(self.entries, process, Part::Writes, sizes.writes),
+            item,
+        )
     }
 
-    /// The lowest item not below `from`, of a set's and of the best so far.
-    pub fn lowest(
-        &self,
-        process: u8,
-        part: Part,
-        size: u8,
-        from: usize,
-        best: Option<u8>,
-    ) -> Option<u8>
-        ensures { λ r. ⌜ r ≡ lowest from best (set-of (now (now (self .entry) .entries)) process part size) ⌝ }
+    /// Where the item stands in the write set, or where that ends.
+    pub fn write_slot(&self, process: u8, sizes: Sizes, item: u8) -> u8
+        ensures { λ r. ⌜ r ≡ write-slot (task blank (now (now (self .entry) .entries)) process sizes) item ⌝ }
     {
-        lowest_in(set_in(self.entries, process, part, size), from, best)
+        slot_in(
+            set_in(self.entries, process, Part::Writes, sizes.writes),
+            item,
+        ) as u8
     }
 
-    /// The items of a set's first eight entries, and zeros behind them.
-    pub fn items(&self, process: u8, part: Part, size: u8) -> [usize; SET_SIZE]
-        ensures { λ r. ⌜ take (length (set-of (now (now (self .entry) .entries)) process part size)) r ≡ take set-size (map item-of (set-of (now (now (self .entry) .entries)) process part size)) ⌝ }
+    /// The lowest item of the data set that is not below `from`.
+    pub fn next_item(&self, process: u8, sizes: Sizes, from: usize) -> Option<u8>
+        ensures { λ r. ⌜ r ≡ next-item (task blank (now (now (self .entry) .entries)) process sizes) from ⌝ }
     {
-        items_in(set_in(self.entries, process, part, size))
+        let best = lowest_in(
+            set_in(self.entries, process, Part::Reads, sizes.reads),
+            from,
+            None,
+        );
+        lowest_in(
+            set_in(self.entries, process, Part::Writes, sizes.writes),
+            from,
+            best,
+        )
+    }
+
+    /// The number with which an item is unlocked: the write set's, else the read set's, else 0.
+    pub fn unlock_sequence(&self, process: u8, sizes: Sizes, item: u8) -> u64
+        ensures { λ r. ⌜ r ≡ unlock-sequence (task blank (now (now (self .entry) .entries)) process sizes) item ⌝ }
+    {
+        if let Some(entry) = self.in_writes(process, sizes, item) {
+            return entry.sequence;
+        }
+        match self.in_reads(process, sizes, item) {
+            Some(entry) => entry.sequence,
+            None => 0,
+        }
+    }
+
+    /// The items of the write set's first eight entries, and zeros behind them.
+    pub fn write_items(&self, process: u8, sizes: Sizes) -> [usize; SET_SIZE]
+        ensures { λ r. ⌜ take (length (task blank (now (now (self .entry) .entries)) process sizes .writes)) r ≡ take set-size (map item-of (task blank (now (now (self .entry) .entries)) process sizes .writes)) ⌝ }
+    {
+        items_in(set_in(self.entries, process, Part::Writes, sizes.writes))
     }
 }
