@@ -86,13 +86,9 @@ module _ {V : Type 0} (xs : List (Entry V)) where
       let at : getD xs k d .item ≡ getD (map item-of xs) k 0 = sym (getD-map item-of xs k d 0 h) in
       take-more-set ys k (getD xs k d .item) l ∙ (λ i. inv i ++ at i ∷ []) ∙ sym (take-more (map item-of xs) k 0 m)
 
-  pub items-all : (k : ℕ) (ys : List ℕ) → k ≡ min (length xs) 8 → length ys ≡ 8 → take k ys ≡ take k (map item-of xs) → take (length xs) ys ≡ take 8 (map item-of xs)
-  items-all k ys e l inv = go (cases-lt 8 (length xs))
+  pub items-all : (k n : ℕ) (ys : List ℕ) → n ≡ min (length xs) 8 → k ≡ n → take k ys ≡ take k (map item-of xs) → take n ys ≡ take 8 (map item-of xs)
+  items-all k n ys e q inv = ap (λ (m : ℕ). take m ys) (sym q) ∙ inv ∙ go (cases-lt 8 (length xs))
     where
-      go : (8 < length xs) ⊎ (length xs ≤ 8) → take (length xs) ys ≡ take 8 (map item-of xs)
-      go (inl h) =
-          let q : k ≡ 8 = omega arith in
-          take-all (length xs) ys (omega arith) ∙ sym (take-all k ys (omega arith)) ∙ inv ∙ ap (λ (m : ℕ). take m (map item-of xs)) q
-      go (inr h) =
-          let q : k ≡ length xs = omega arith in
-          ap (λ (m : ℕ). take m ys) (sym q) ∙ inv ∙ take-all k (map item-of xs) (omega (arith, length-map xs (item-of {V = V}))) ∙ sym (take-all 8 (map item-of xs) (omega (arith, length-map xs (item-of {V = V}))))
+      go : (8 < length xs) ⊎ (length xs ≤ 8) → take k (map item-of xs) ≡ take 8 (map item-of xs)
+      go (inl h) = let r : k ≡ 8 = omega arith in ap (λ (m : ℕ). take m (map item-of xs)) r
+      go (inr h) = take-all k (map item-of xs) (omega (arith, length-map xs (item-of {V = V}))) ∙ sym (take-all 8 (map item-of xs) (omega (arith, length-map xs (item-of {V = V}))))

@@ -92,13 +92,15 @@ pub fn lowest_in<V: Kind>(set: &[Entry<V>], from: usize, best: Option<u8>) -> Op
     found
 }
 
-// The items of the first eight entries, and zeros behind them.
-pub fn items_in<V: Kind>(set: &[Entry<V>]) -> [usize; SET_SIZE]
-    ensures { λ r. ⌜ take (length (now (set .entry))) r ≡ take set-size (map item-of (now (set .entry))) ⌝ }
+// How many entries the set has, of more than eight the first eight, and their items with zeros behind them.
+pub fn items_in<V: Kind>(set: &[Entry<V>]) -> (usize, [usize; SET_SIZE])
+    ensures count { λ r. ⌜ r .0 ≤ set-size ⌝ }
+    ensures items { λ r. ⌜ take (r .0) (r .1) ≡ take set-size (map item-of (now (set .entry))) ⌝ }
 {
     let mut items = [0; SET_SIZE];
-    for at in 0..set.len().min(SET_SIZE) {
+    let count = set.len().min(SET_SIZE);
+    for at in 0..count {
         items[at] = set[at].item as usize;
     }
-    items
+    (count, items)
 }

@@ -3,7 +3,7 @@ ghost use denote.Ref.{now as held-by, name as name-of};
 ghost use lib.ListN.{length, set, take};
 ghost use mathlib.Core.List.{map};
 ghost use mathlib.Core.Path.{_≡_};
-ghost use Prim.Native.Nat.{_+_, min};
+ghost use Prim.Native.Nat.{_+_, _≤_};
 ghost use Rattle.bank.specs.Limits.{set-size};
 ghost use Rattle.table.specs.Sets.{entry-at, start, item-of};
 ghost use Rattle.table.specs.Tasks.{task, in-reads, in-writes, write-slot, next-item, unlock-sequence};
@@ -116,9 +116,10 @@ impl<'a, V: Kind> Table<'a, V> {
         }
     }
 
-    /// The items of the write set's first eight entries, and zeros behind them.
-    pub fn write_items(&self, process: u8, sizes: Sizes) -> [usize; SET_SIZE]
-        ensures { λ r. ⌜ take (length (task blank (now (now (self .entry) .entries)) process sizes .writes)) r ≡ take set-size (map item-of (task blank (now (now (self .entry) .entries)) process sizes .writes)) ⌝ }
+    /// How many entries the write set has, of more than eight the first eight, and their items with zeros behind them.
+    pub fn write_items(&self, process: u8, sizes: Sizes) -> (usize, [usize; SET_SIZE])
+        ensures count { λ r. ⌜ r .0 ≤ set-size ⌝ }
+        ensures items { λ r. ⌜ take (r .0) (r .1) ≡ take set-size (map item-of (task blank (now (now (self .entry) .entries)) process sizes .writes)) ⌝ }
     {
         items_in(set_in(self.entries, process, Part::Writes, sizes.writes))
     }
