@@ -45,6 +45,10 @@ module _ {V : Type 0} (t : Task V) where
   abbrev pub compared : ℕ → ℕ → Place
   compared i n = compared-with i n (in-reads t i)
 
+  -- without an owner the number is compared; else the owner is asked first
+  abbrev pub seen-to : ℕ → Lock → Place
+  seen-to i l = cond (eqb (l .owner) 0) (compared i (l .sequence)) (L3 i l)
+
   -- the item's lock is given up only by its owner
   abbrev pub released : ℕ → Lock → Option ℕ → Place
   released i l cause = cond (eqb (l .owner) (t .me)) (A2 i (l .sequence) cause) (abort-to cause (next-item t (i + 1)))

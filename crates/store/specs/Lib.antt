@@ -1,0 +1,6 @@
+pub mod Calls
+pub mod Model
+pub mod Rows
+pub mod Tells
+pub mod Traits
+pub mod Turns

@@ -1,0 +1,76 @@
+-- The whole state that the calls work on, what a call leaves of it, and what a move of one process makes of it.
+use Prim.Native.Nat.{ℕ, _+_, _-_}
+use mathlib.Core.List.{List}
+use lib.ListN.{getD, set}
+use Rattle.bank.specs.declared.record.Record.{Record}
+use Rattle.table.specs.Sets.{start}
+use Rattle.table.specs.Tasks.{Task, task}
+use Rattle.table.specs.declared.entry.Entry.{Entry}
+use Rattle.table.specs.declared.entry.Part.{Part}
+use Rattle.rows.specs.Primitives.{Touch, touched}
+use Rattle.store.specs.Tells.{Told}
+use Rattle.store.specs.Traits.{fresh}
+use Rattle.store.specs.declared.process.Process.{Process}
+use Rattle.store.specs.declared.stored.Store.{Store}
+
+-- the store and its working table: all but the bank
+pub record Memory (V : Type 0) : Type 0 where
+  pub processes : List Process
+  pub number : ℕ
+  pub life : ℕ
+  pub entries : List (Entry V)
+
+pub record State (V : Type 0) : Type 0 where
+  pub cells : List (Record V)
+  pub memory : Memory V
+
+-- what a call tells, and the state that it leaves
+pub record Outcome (V : Type 0) : Type 0 where
+  pub tells : Told V
+  pub after : State V
+
+-- of the table at most one entry of the process's own
+pub data Note (V : Type 0) : Type 0 where
+  keep : Note V
+  put : Part → ℕ → Entry V → Note V
+
+-- what an accepted call of a process does: what it tells, the process's own record anew, one touch of the bank, one own entry
+pub record Move (V : Type 0) : Type 0 where
+  pub tells : Told V
+  pub process : Process
+  pub touch : Touch V
+  pub note : Note V
+
+module _ {V : Type 0} where
+  abbrev pub memory : Store → List (Entry V) → Memory V
+  memory st es = record { processes = st .processes; number = st .number; life = st .life; entries = es }
+
+  abbrev pub state : List (Record V) → Store → List (Entry V) → State V
+  state cs st es = record { cells = cs; memory = memory st es }
+
+  abbrev pub process : Memory V → ℕ → Process
+  process s p = getD (s .processes) (p - 1) fresh
+
+  abbrev pub noted : List (Entry V) → ℕ → Note V → List (Entry V)
+  noted es p keep = es
+  noted es p (put part k e) = set es (start p part + k) e
+
+module _ {V : Type 0} (blank : V) where
+  abbrev pub task-of : Memory V → ℕ → Task V
+  task-of s p = task blank (s .entries) p (process s p .sizes)
+
+  abbrev pub moved : State V → ℕ → Move V → State V
+  moved s p m =
+      record {
+        cells = touched blank (s .cells) (m .touch);
+        memory =
+            record {
+              processes = set (s .memory .processes) (p - 1) (m .process);
+              number = s .memory .number;
+              life = s .memory .life;
+              entries = noted (s .memory .entries) p (m .note);
+            };
+      }
+
+  abbrev pub accepted : State V → ℕ → Move V → Outcome V
+  accepted s p m = record { tells = m .tells; after = moved s p m }

@@ -1,0 +1,68 @@
+//! What a call answers, and why it may be refused.
+ghost use mathlib.Core.Path.{_≡_};
+ghost use Rattle.store.specs.Tells.{refusal-number};
+
+/// The answer to an accepted call.
+#[derive(Clone, Copy)]
+pub enum Answer<V> {
+    /// The call is done.
+    Done,
+    /// An operation is under way.
+    Going,
+    /// An operation is under way, and this step did not get on.
+    Waiting,
+    /// A read ended with this value.
+    Value(V),
+    /// The transaction ended, and counts.
+    Committed,
+    /// The transaction ended without effect: by choice, or because of a commit that wrote this item.
+    Aborted(Option<u8>),
+}
+
+/// Why a call was refused; it changed nothing.
+#[derive(Clone, Copy)]
+pub enum Refusal {
+    /// 1: the working table has fewer than 16 entries a process.
+    ShortTable,
+    /// 2: the store has no such process.
+    NoProcess,
+    /// 3: the process has a transaction open.
+    AlreadyOpen,
+    /// 4: the process has no transaction open.
+    NotOpen,
+    /// 5: an operation is under way.
+    UnderWay,
+    /// 6: no operation is under way.
+    NotUnderWay,
+    /// 7: another process remembers this one as the owner of a lock.
+    Remembered,
+    /// 8: no begin is left.
+    LifeUsed,
+    /// 9: the bank has no such item, or its number is above 63.
+    NoItem,
+    /// 10: a new entry is needed, and its set is full.
+    SetFull,
+    /// 11: the number of items, of processes or of begins is outside the limits.
+    OutsideLimits,
+}
+
+impl Refusal {
+    /// The refusal's number.
+    pub fn number(self) -> u8
+        ensures { λ r. ⌜ r ≡ refusal-number self ⌝ }
+    {
+        match self {
+            Refusal::ShortTable => 1,
+            Refusal::NoProcess => 2,
+            Refusal::AlreadyOpen => 3,
+            Refusal::NotOpen => 4,
+            Refusal::UnderWay => 5,
+            Refusal::NotUnderWay => 6,
+            Refusal::Remembered => 7,
+            Refusal::LifeUsed => 8,
+            Refusal::NoItem => 9,
+            Refusal::SetFull => 10,
+            Refusal::OutsideLimits => 11,
+        }
+    }
+}

@@ -1,0 +1,12 @@
+//! The store: transactions of up to 16 processes over the items of a bank, one primitive a step.
+pub mod answer;
+mod checks;
+pub mod process;
+mod stepping;
+pub mod stored;
+
+pub use answer::Answer;
+pub use answer::Refusal;
+pub use process::Process;
+pub use process::Status;
+pub use stored::Store;
