@@ -4,7 +4,6 @@ use mathlib.Core.Bool.{Bool, true, false, cond, _&&_, _||_, not}
 use mathlib.Core.List.{List, [], _∷_, map}
 use lib.Dec.{eqb, leb, ltb}
 use lib.ListN.{length, replicate}
-use Rattle.std.specs.Options.{isSome}
 use Rattle.std.specs.declared.option.Option.{Option}
 use Rattle.std.specs.declared.option.Option.the-variants.{None, Some}
 use Rattle.bank.specs.Limits.{most-items, most-processes, most-sequence, set-size}
@@ -17,9 +16,9 @@ use Rattle.rows.specs.Primitives.{still}
 use Rattle.rows.specs.declared.place.Place.{Place}
 use Rattle.rows.specs.declared.place.Place.the-variants.{Idle, R1}
 use Rattle.upkeep.specs.Upkeep.{cleared}
-use Rattle.store.specs.Model.{Memory, State, Outcome, Move, keep, put, process, task-of, accepted}
+use Rattle.store.specs.Model.{Memory, State, Outcome, keep, put, process, task-of, with-own, accepted}
 use Rattle.store.specs.Rows.{placed, row}
-use Rattle.store.specs.Tells.{done, going, value, refused}
+use Rattle.store.specs.Tells.{Told, done, going, value, refused}
 use Rattle.store.specs.Traits.{traits, fresh}
 use Rattle.store.specs.declared.process.Process.{Process}
 use Rattle.store.specs.declared.process.Status.the-variants.{Null}
@@ -54,9 +53,9 @@ remembered at (q ∷ qs) p = holds-up at q p || remembered (at + 1) qs p
 abbrev pub outside : ℕ → ℕ → ℕ → Bool
 outside low high n = ltb n low || ltb high n
 
--- a set has no room for an item that is not there yet
-abbrev pub no-room : Bool → ℕ → Bool
-no-room there size = not there && leb set-size size
+-- the write set has n entries
+abbrev pub with-writes : Process → ℕ → Process
+with-writes q n = record { status = q .status; sizes = record { reads = q .sizes .reads; writes = n }; place = q .place }
 
 module _ {V : Type 0} where
   -- a refusal changes nothing
@@ -105,23 +104,27 @@ module _ {V : Type 0} where
   abbrev pub no-item : List (Record V) → ℕ → Bool
   no-item cs i = leb (length cs) i || leb most-items i
 
+  -- what read and write have in common
+  abbrev pub item-refusal : State V → ℕ → ℕ → Option ℕ
+  item-refusal s p i = or-else (first-ground (operation-grounds (s .memory) p)) (first-ground (ground 9 (no-item (s .cells) i) ∷ []))
+
+-- what a call that leaves the bank alone tells, and what it leaves of the rest
+pub record Reached (V : Type 0) : Type 0 where
+  pub tells : Told V
+  pub memory : Memory V
+
+module _ {V : Type 0} where
+  abbrev pub reached : Told V → Memory V → Reached V
+  reached t s = record { tells = t; memory = s }
+
+  abbrev pub over : List (Record V) → Reached V → Outcome V
+  over cs r = record { tells = r .tells; after = record { cells = cs; memory = r .memory } }
+
+  -- refusal 10: a new entry is needed, and the set has no room
+  abbrev pub unless-full : ℕ → Memory V → Reached V → Reached V
+  unless-full size s r = cond (leb set-size size) (record { tells = refused 10; memory = s }) r
+
 module _ {V : Type 0} (blank : V) where
-  abbrev pub readable : Memory V → ℕ → ℕ → Bool
-  readable s p i = isSome (in-writes (task-of blank s p) i) || isSome (in-reads (task-of blank s p) i)
-
-  abbrev pub writable : Memory V → ℕ → ℕ → Bool
-  writable s p i = isSome (in-writes (task-of blank s p) i)
-
-  abbrev pub read-refusal : State V → ℕ → ℕ → Option ℕ
-  read-refusal s p i =
-      or-else (first-ground (operation-grounds (s .memory) p))
-      (first-ground (ground 9 (no-item (s .cells) i) ∷ ground 10 (no-room (readable (s .memory) p i) (process (s .memory) p .sizes .reads)) ∷ []))
-
-  abbrev pub write-refusal : State V → ℕ → ℕ → Option ℕ
-  write-refusal s p i =
-      or-else (first-ground (operation-grounds (s .memory) p))
-      (first-ground (ground 9 (no-item (s .cells) i) ∷ ground 10 (no-room (writable (s .memory) p i) (process (s .memory) p .sizes .writes)) ∷ []))
-
   -- one begin fewer is left
   abbrev pub older : State V → State V
   older s =
@@ -140,32 +143,29 @@ module _ {V : Type 0} (blank : V) where
   abbrev pub starts : State V → ℕ → Place → Outcome V
   starts s p pl = accepted blank s p (record { tells = going; process = placed (process (s .memory) p) pl; touch = still; note = keep })
 
-  abbrev pub read-by : State V → ℕ → ℕ → Option (Entry V) → Option (Entry V) → Outcome V
-  read-by s p i (Some e) found = record { tells = value (e .value); after = s }
-  read-by s p i None (Some e) = record { tells = value (e .value); after = s }
-  read-by s p i None None = starts s p (R1 i)
+  -- an item in the write set or the read set is answered at once; else the read starts, if the read set has room
+  abbrev pub read-by : Memory V → ℕ → ℕ → Option (Entry V) → Option (Entry V) → Reached V
+  read-by s p i (Some e) found = record { tells = value (e .value); memory = s }
+  read-by s p i None (Some e) = record { tells = value (e .value); memory = s }
+  read-by s p i None None = unless-full (process s p .sizes .reads) s (record { tells = going; memory = with-own s p (placed (process s p) (R1 i)) keep })
 
   abbrev pub read : State V → ℕ → ℕ → Outcome V
-  read s p i =
-      unless (read-refusal s p i) s (read-by s p i (in-writes (task-of blank (s .memory) p) i) (in-reads (task-of blank (s .memory) p) i))
+  read s p i = unless (item-refusal s p i) s (over (s .cells) (read-by (s .memory) p i (in-writes (task-of blank (s .memory) p) i) (in-reads (task-of blank (s .memory) p) i)))
 
-  -- the write set has the item: a new entry, or an earlier one replaced
-  abbrev pub with-write : Process → ℕ → Process
-  with-write q n = record { status = q .status; sizes = record { reads = q .sizes .reads; writes = n }; place = q .place }
+  -- the value goes into the item's entry of the write set, or into a new one, if there is room
+  abbrev pub written : Memory V → ℕ → ℕ → V → ℕ → Reached V
+  written s p i v n =
+      record {
+        tells = done;
+        memory = with-own s p (with-writes (process s p) n) (put Writes (write-slot (task-of blank s p) i) (record { item = i; sequence = 0; value = v }));
+      }
 
-  abbrev pub writes-after : State V → ℕ → ℕ → ℕ
-  writes-after s p i = cond (writable (s .memory) p i) (process (s .memory) p .sizes .writes) (process (s .memory) p .sizes .writes + 1)
+  abbrev pub write-by : Memory V → ℕ → ℕ → V → Option (Entry V) → Reached V
+  write-by s p i v (Some e) = written s p i v (process s p .sizes .writes)
+  write-by s p i v None = unless-full (process s p .sizes .writes) s (written s p i v (process s p .sizes .writes + 1))
 
   abbrev pub write : State V → ℕ → ℕ → V → Outcome V
-  write s p i v =
-      unless (write-refusal s p i) s
-      (accepted blank s p
-      (record {
-        tells = done;
-        process = with-write (process (s .memory) p) (writes-after s p i);
-        touch = still;
-        note = put Writes (write-slot (task-of blank (s .memory) p) i) (record { item = i; sequence = 0; value = v });
-      }))
+  write s p i v = unless (item-refusal s p i) s (over (s .cells) (write-by (s .memory) p i v (in-writes (task-of blank (s .memory) p) i)))
 
   abbrev pub try-commit : State V → ℕ → Outcome V
   try-commit s p = unless (first-ground (operation-grounds (s .memory) p)) s (starts s p (count-from (task-of blank (s .memory) p) 0 false))

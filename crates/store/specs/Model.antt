@@ -42,6 +42,9 @@ pub record Move (V : Type 0) : Type 0 where
   pub note : Note V
 
 module _ {V : Type 0} where
+  abbrev pub outcome : Told V → State V → Outcome V
+  outcome t s = record { tells = t; after = s }
+
   abbrev pub memory : Store → List (Entry V) → Memory V
   memory st es = record { processes = st .processes; number = st .number; life = st .life; entries = es }
 
@@ -55,22 +58,16 @@ module _ {V : Type 0} where
   noted es p keep = es
   noted es p (put part k e) = set es (start p part + k) e
 
+  -- a process's own record and at most one of its entries anew
+  abbrev pub with-own : Memory V → ℕ → Process → Note V → Memory V
+  with-own s p q n = record { processes = set (s .processes) (p - 1) q; number = s .number; life = s .life; entries = noted (s .entries) p n }
+
 module _ {V : Type 0} (blank : V) where
   abbrev pub task-of : Memory V → ℕ → Task V
   task-of s p = task blank (s .entries) p (process s p .sizes)
 
   abbrev pub moved : State V → ℕ → Move V → State V
-  moved s p m =
-      record {
-        cells = touched blank (s .cells) (m .touch);
-        memory =
-            record {
-              processes = set (s .memory .processes) (p - 1) (m .process);
-              number = s .memory .number;
-              life = s .memory .life;
-              entries = noted (s .memory .entries) p (m .note);
-            };
-      }
+  moved s p m = record { cells = touched blank (s .cells) (m .touch); memory = with-own (s .memory) p (m .process) (m .note) }
 
   abbrev pub accepted : State V → ℕ → Move V → Outcome V
   accepted s p m = record { tells = m .tells; after = moved s p m }

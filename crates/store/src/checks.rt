@@ -1,6 +1,6 @@
 //! On which grounds a call is refused: each check goes down its list, and the first that holds counts.
 ghost use mathlib.Core.Path.{_≡_};
-ghost use Rattle.store.specs.Calls.{first-ground, begin-grounds, step-grounds, operation-grounds, read-refusal, write-refusal, set-up-grounds, holds-up, remembered as remembered-def};
+ghost use Rattle.store.specs.Calls.{first-ground, begin-grounds, step-grounds, operation-grounds, item-refusal, set-up-grounds, holds-up, remembered as remembered-def};
 ghost use Rattle.store.specs.Model.{state, memory};
 ghost use Rattle.store.specs.Rows.{owned as owned-def, recalled as recalled-def};
 ghost use Rattle.store.specs.Tells.{refused-with};
@@ -13,12 +13,10 @@ use bank::Bank;
 use bank::MOST_ITEMS;
 use bank::MOST_PROCESSES;
 use bank::MOST_SEQUENCE;
-use bank::SET_SIZE;
 use kinds::Kind;
 use rows::Place;
 use table::ENTRIES;
 use table::Entry;
-use table::Sizes;
 use table::Table;
 
 // The owner that a process remembers at a place, or 0.
@@ -122,48 +120,19 @@ impl Store {
         }
     }
 
-    // The grounds of an operation, then 9 and 10.
-    pub(crate) fn check_read<B: Bank>(
+    // The grounds of an operation, then 9.
+    pub(crate) fn check_item<B: Bank>(
         &self,
         bank: &B,
         table: &Table<'_, B::Value>,
         process: usize,
         item: usize,
     ) -> Result<(), Refusal>
-        ensures { λ r. ⌜ refused-with r ≡ read-refusal (Value·Kind .blank) (state (cells (now (bank .entry))) (now (self .entry)) (now (now (table .entry) .entries))) process item ⌝ }
+        ensures { λ r. ⌜ refused-with r ≡ item-refusal (state (cells (now (bank .entry))) (now (self .entry)) (now (now (table .entry) .entries))) process item ⌝ }
     {
         self.check_operation(table, process)?;
         if item >= bank.items() || item >= MOST_ITEMS {
             return Err(Refusal::NoItem);
-        }
-        let sizes = self.processes[process - 1].sizes;
-        let there = table.in_writes(process as u8, sizes, item as u8).is_some()
-            || table.in_reads(process as u8, sizes, item as u8).is_some();
-        if !there && sizes.reads as usize >= SET_SIZE {
-            return Err(Refusal::SetFull);
-        }
-        Ok(())
-    }
-
-    // The grounds of an operation, then 9 and 10.
-    pub(crate) fn check_write<B: Bank>(
-        &self,
-        bank: &B,
-        table: &Table<'_, B::Value>,
-        process: usize,
-        item: usize,
-    ) -> Result<(), Refusal>
-        ensures { λ r. ⌜ refused-with r ≡ write-refusal (Value·Kind .blank) (state (cells (now (bank .entry))) (now (self .entry)) (now (now (table .entry) .entries))) process item ⌝ }
-    {
-        self.check_operation(table, process)?;
-        if item >= bank.items() || item >= MOST_ITEMS {
-            return Err(Refusal::NoItem);
-        }
-        let sizes = self.processes[process - 1].sizes;
-        if table.in_writes(process as u8, sizes, item as u8).is_none()
-            && sizes.writes as usize >= SET_SIZE
-        {
-            return Err(Refusal::SetFull);
         }
         Ok(())
     }

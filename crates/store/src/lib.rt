@@ -1,5 +1,6 @@
 //! The store: transactions of up to 16 processes over the items of a bank, one primitive a step.
 pub mod answer;
+pub mod calls;
 mod checks;
 pub mod process;
 mod stepping;
