@@ -20,6 +20,8 @@ use Rattle.store.specs.Model.{Memory, State, Outcome, keep, put, process, task
 use Rattle.store.specs.Rows.{placed, row}
 use Rattle.store.specs.Tells.{Told, done, going, value, refused}
 use Rattle.store.specs.Traits.{traits, fresh}
+use Rattle.store.specs.declared.calling.Call.{Call}
+use Rattle.store.specs.declared.calling.Call.the-variants as call
 use Rattle.store.specs.declared.process.Process.{Process}
 use Rattle.store.specs.declared.process.Status.the-variants.{Null}
 
@@ -195,3 +197,13 @@ module _ {V : Type 0} where
               memory = record { processes = replicate most-processes fresh; number = number; life = life; entries = s .memory .entries };
             };
       })
+
+module _ {V : Type 0} (blank : V) where
+  -- a call as a value
+  abbrev pub called : State V → Call V → Outcome V
+  called s (call.Begin p) = begin blank s p
+  called s (call.Read p i) = read blank s p i
+  called s (call.Write p i v) = write blank s p i v
+  called s (call.TryCommit p) = try-commit blank s p
+  called s (call.Abort p) = abort blank s p
+  called s (call.Step p) = step blank s p

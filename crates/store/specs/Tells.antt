@@ -48,3 +48,8 @@ module _ {V : Type 0} where
 abbrev pub refused-with : {A : Type 0} → Result A Refusal → Option ℕ
 refused-with (Ok x) = None
 refused-with (Err r) = Some (refusal-number r)
+
+-- set-up has no answer but that it is done
+abbrev pub set-up-told : {V : Type 0} → Result (Unit {0}) Refusal → Told V
+set-up-told (Ok u) = done
+set-up-told (Err r) = refused (refusal-number r)

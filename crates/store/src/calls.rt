@@ -1,13 +1,13 @@
 //! The calls on a store.
 ghost use denote.Ref.{name};
-ghost use lib.ListN.{getD, set};
+ghost use lib.ListN.{getD, set, replicate};
 ghost use mathlib.Core.Path.{_≡_};
 ghost use Prim.Native.Nat.{_<_, _≤_, _-_};
 ghost use Rattle.bank.specs.Limits.{most-processes};
 ghost use Rattle.table.specs.Tasks.{in-reads, in-writes};
-ghost use Rattle.store.specs.Calls.{read-by, write-by, reached, begin as begin-def, read as read-def, write as write-def, try-commit as try-commit-def, abort as abort-def, step as step-def};
+ghost use Rattle.store.specs.Calls.{read-by, write-by, reached, begin as begin-def, read as read-def, write as write-def, try-commit as try-commit-def, abort as abort-def, step as step-def, set-up as set-up-def};
 ghost use Rattle.store.specs.Model.{outcome, state, memory, task-of};
-ghost use Rattle.store.specs.Tells.{told};
+ghost use Rattle.store.specs.Tells.{told, set-up-told};
 ghost use Rattle.store.specs.Traits.{Fits, fresh, traits};
 use crate::answer::Answer;
 use crate::answer::Refusal;
@@ -15,6 +15,7 @@ use crate::process::Process;
 use crate::process::Status;
 use crate::stored::Store;
 use bank::Bank;
+use bank::MOST_PROCESSES;
 use bank::SET_SIZE;
 use kinds::Kind;
 use rows::Place;
@@ -22,6 +23,7 @@ use table::Entry;
 use table::Part;
 use table::Sizes;
 use table::Table;
+use upkeep::clear;
 
 impl Store {
     /// Begins a transaction: both sets are empty and the status is null.
@@ -116,6 +118,68 @@ impl Store {
         let place = Place::count_from(table, process as u8, old.sizes, 0, true);
         self.replace(process, Process { place, ..old });
         Ok(Answer::Going)
+    }
+
+    /// Runs one row for the process.
+    pub fn step<B: Bank>(
+        &mut self,
+        bank: &mut B,
+        table: &mut Table<'_, B::Value>,
+        process: usize,
+    ) -> Result<Answer<B::Value>, Refusal>
+        ensures exact { λ r. ⌜ outcome (told r) (state (cells (now (bank .exit))) (now (self .exit)) (now (now (table .exit) .entries))) ≡ step-def (Value·Kind .blank) (state (cells (now (bank .entry))) (now (self .entry)) (now (now (table .entry) .entries))) process ⌝ }
+        ensures bank { λ _. ⌜ places (now (bank .exit)) ≡ places (now (bank .entry)) ⌝ }
+        ensures table { λ _. ⌜ name (now (table .exit) .entries) ≡ name (now (table .entry) .entries) ⌝ }
+    {
+        self.check_step(table, process)?;
+        let owned = self.recalled(table, self.processes[process - 1].place);
+        Ok(
+            self.processes[process - 1]
+                .step(bank, table, process as u8, owned),
+        )
+    }
+
+    /// A store without processes; every call but set-up is refused.
+    pub fn new() -> Store
+        ensures processes { λ r. ⌜ r .processes ≡ replicate most-processes fresh ⌝ }
+        ensures number { λ r. ⌜ r .number ≡ 0 ⌝ }
+        ensures life { λ r. ⌜ r .life ≡ 0 ⌝ }
+    {
+        Store {
+            processes: [Process::FRESH; MOST_PROCESSES as usize],
+            number: 0,
+            life: 0,
+        }
+    }
+
+    /// Sets the store up over a bank: every lock and count becomes 0, the values stay, and a new history begins with nothing open.
+    pub fn set_up<B: Bank>(
+        &mut self,
+        bank: &mut B,
+        table: &mut Table<'_, B::Value>,
+        processes: usize,
+        life: u64,
+    ) -> Result<(), Refusal>
+        ensures exact { λ r. ⌜ outcome (set-up-told r) (state (cells (now (bank .exit))) (now (self .exit)) (now (now (table .exit) .entries))) ≡ set-up-def (state (cells (now (bank .entry))) (now (self .entry)) (now (now (table .entry) .entries))) processes life ⌝ }
+        ensures bank { λ _. ⌜ places (now (bank .exit)) ≡ places (now (bank .entry)) ⌝ }
+        ensures table { λ _. ⌜ name (now (table .exit) .entries) ≡ name (now (table .entry) .entries) ⌝ }
+    {
+        self.check_set_up(bank, table, processes, life)?;
+        clear(bank);
+        self.renew(processes as u8, life);
+        Ok(())
+    }
+
+    // So many processes that never began, and so many begins.
+    fn renew(&mut self, number: u8, life: u64)
+        requires { ⌜ number ≤ most-processes ⌝ }
+        ensures processes { λ _. ⌜ now (self .exit) .processes ≡ replicate most-processes fresh ⌝ }
+        ensures number { λ _. ⌜ now (self .exit) .number ≡ number ⌝ }
+        ensures life { λ _. ⌜ now (self .exit) .life ≡ life ⌝ }
+    {
+        self.processes = [Process::FRESH; MOST_PROCESSES as usize];
+        self.number = number;
+        self.life = life;
     }
 
     // Reads an item that there is.

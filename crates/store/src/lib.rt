@@ -1,5 +1,6 @@
 //! The store: transactions of up to 16 processes over the items of a bank, one primitive a step.
 pub mod answer;
+pub mod calling;
 pub mod calls;
 mod checks;
 pub mod process;
@@ -8,6 +9,7 @@ pub mod stored;
 
 pub use answer::Answer;
 pub use answer::Refusal;
+pub use calling::Call;
 pub use process::Process;
 pub use process::Status;
 pub use stored::Store;

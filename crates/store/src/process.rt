@@ -17,3 +17,15 @@ pub struct Process {
     pub sizes: Sizes,
     pub place: Place,
 }
+
+impl Process {
+    // A process that never began.
+    pub(crate) const FRESH: Process = Process {
+        status: Status::Null,
+        sizes: Sizes {
+            reads: 0,
+            writes: 0,
+        },
+        place: Place::Closed,
+    };
+}
