@@ -1,8 +1,9 @@
 -- The rows: what follows from a process's place, the remembered owner's entry and the bank's reply.
-use Prim.Native.Nat.{ℕ, _+_}
+use Prim.Native.Nat.{ℕ, _+_, _-_}
 use mathlib.Core.Bool.{Bool, true, false, cond, _||_}
 use mathlib.Core.List.{List}
 use lib.Dec.{eqb, ltb}
+use lib.ListN.{getD}
 use Rattle.std.specs.declared.option.Option.{Option}
 use Rattle.std.specs.declared.option.Option.the-variants.{None, Some}
 use Rattle.bank.specs.declared.lock.Lock.{Lock}
@@ -37,6 +38,10 @@ abbrev pub is-committed : Status → Bool
 is-committed Null = false
 is-committed Committed = true
 is-committed Aborted = false
+
+-- the w-th of so many processes; one that there is not is as one that never began
+abbrev pub among : List Process → ℕ → ℕ → Process
+among ps number w = cond (eqb w 0 || ltb number w) fresh (getD ps (w - 1) fresh)
 
 -- what follows, but for the touch of the bank
 pub record Turn (V : Type 0) : Type 0 where
@@ -118,9 +123,8 @@ module _ {V : Type 0} (blank : V) where
       let u : Turn V = next-at q t blank (q .place) e r in
       record { tells = u .tells; process = u .process; touch = if-said (said r) (touching (asked t (q .place))); note = u .note }
 
-  -- an owner that is no process of the store is as one that never began
   abbrev pub owner-of : Memory V → ℕ → Process
-  owner-of s w = cond (eqb w 0 || ltb (s .number) w) fresh (process s w)
+  owner-of s w = among (s .processes) (s .number) w
 
   -- the item's entry in the write set of an owner that has committed
   abbrev pub owned : Memory V → ℕ → ℕ → Option (Entry V)

@@ -19,6 +19,13 @@ pub enum Answer<V> {
     Aborted(Option<u8>),
 }
 
+/// How a transaction ended.
+#[derive(Clone, Copy)]
+pub enum Ending {
+    Committed,
+    Aborted,
+}
+
 /// Why a call was refused; it changed nothing.
 #[derive(Clone, Copy)]
 pub enum Refusal {

@@ -6,10 +6,12 @@ ghost use Prim.Native.Nat.{_<_, _≤_, _-_};
 ghost use Rattle.bank.specs.Limits.{most-processes};
 ghost use Rattle.table.specs.Tasks.{in-reads, in-writes};
 ghost use Rattle.store.specs.Calls.{read-by, write-by, reached, begin as begin-def, read as read-def, write as write-def, try-commit as try-commit-def, abort as abort-def, step as step-def, set-up as set-up-def};
+ghost use Rattle.store.specs.Endings.{ending-of};
 ghost use Rattle.store.specs.Model.{outcome, state, memory, task-of};
 ghost use Rattle.store.specs.Tells.{told, set-up-told};
 ghost use Rattle.store.specs.Traits.{Fits, fresh, traits};
 use crate::answer::Answer;
+use crate::answer::Ending;
 use crate::answer::Refusal;
 use crate::process::Process;
 use crate::process::Status;
@@ -137,6 +139,21 @@ impl Store {
             self.processes[process - 1]
                 .step(bank, table, process as u8, owned),
         )
+    }
+
+    /// How the process's latest transaction ended: none while it is open, aborted if there was none.
+    pub fn ending(&self, process: usize) -> Option<Ending>
+        ensures { λ r. ⌜ r ≡ ending-of (now (self .entry) .processes) (now (self .entry) .number) process ⌝ }
+    {
+        if process == 0 || process > self.number as usize {
+            return Some(Ending::Aborted);
+        }
+        let latest = self.processes[process - 1];
+        match (latest.place, latest.status) {
+            (Place::Closed, Status::Committed) => Some(Ending::Committed),
+            (Place::Closed, _) => Some(Ending::Aborted),
+            (_, _) => None,
+        }
     }
 
     /// A store without processes; every call but set-up is refused.

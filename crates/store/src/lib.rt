@@ -8,6 +8,7 @@ mod stepping;
 pub mod stored;
 
 pub use answer::Answer;
+pub use answer::Ending;
 pub use answer::Refusal;
 pub use calling::Call;
 pub use process::Process;
