@@ -35,7 +35,8 @@ pub fn put_in<V: Kind>(entries: &mut [Entry<V>], at: usize, entry: Entry<V>)
 
 // The first `size` entries of a process's part, or as many as the table has.
 pub fn set_in<V: Kind>(entries: &[Entry<V>], process: u8, part: Part, size: u8) -> &[Entry<V>]
-    ensures { λ r. ⌜ now r ≡ set-of (now (entries .entry)) process part size ⌝ }
+    ensures set { λ r. ⌜ now r ≡ set-of (now (entries .entry)) process part size ⌝ }
+    ensures few { λ r. ⌜ length (now r) ≤ size ⌝ }
 {
     let first = part.start(process).min(entries.len());
     let end = (first + size as usize).min(entries.len());
@@ -56,7 +57,8 @@ pub fn find_in<V: Kind>(set: &[Entry<V>], item: u8) -> Option<Entry<V>>
 
 // Where the first entry that has the item stands, or where the set ends.
 pub fn slot_in<V: Kind>(set: &[Entry<V>], item: u8) -> usize
-    ensures { λ r. ⌜ r ≡ slot item (now (set .entry)) ⌝ }
+    ensures slot { λ r. ⌜ r ≡ slot item (now (set .entry)) ⌝ }
+    ensures within { λ r. ⌜ r ≤ length (now (set .entry)) ⌝ }
 {
     let mut at = 0;
     for entry in set {

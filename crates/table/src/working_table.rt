@@ -57,50 +57,49 @@ impl<'a, V: Kind> Table<'a, V> {
         put_in(self.entries, part.start(process) + at as usize, entry);
     }
 
+    // The read set.
+    fn reads(&self, process: u8, sizes: Sizes) -> &[Entry<V>]
+        ensures set { λ r. ⌜ now r ≡ task blank (now (now (self .entry) .entries)) process sizes .reads ⌝ }
+        ensures few { λ r. ⌜ length (now r) ≤ sizes .reads ⌝ }
+    {
+        set_in(self.entries, process, Part::Reads, sizes.reads)
+    }
+
+    // The write set.
+    fn writes(&self, process: u8, sizes: Sizes) -> &[Entry<V>]
+        ensures set { λ r. ⌜ now r ≡ task blank (now (now (self .entry) .entries)) process sizes .writes ⌝ }
+        ensures few { λ r. ⌜ length (now r) ≤ sizes .writes ⌝ }
+    {
+        set_in(self.entries, process, Part::Writes, sizes.writes)
+    }
+
     /// The entry of the read set that has the item.
     pub fn in_reads(&self, process: u8, sizes: Sizes, item: u8) -> Option<Entry<V>>
         ensures { λ r. ⌜ r ≡ in-reads (task blank (now (now (self .entry) .entries)) process sizes) item ⌝ }
     {
-        find_in(
-            set_in(self.entries, process, Part::Reads, sizes.reads),
-            item,
-        )
+        find_in(self.reads(process, sizes), item)
     }
 
     /// The entry of the write set that has the item.
     pub fn in_writes(&self, process: u8, sizes: Sizes, item: u8) -> Option<Entry<V>>
         ensures { λ r. ⌜ r ≡ in-writes (task blank (now (now (self .entry) .entries)) process sizes) item ⌝ }
     {
-        find_in(
-            set_in(self.entries, process, Part::Writes, sizes.writes),
-            item,
-        )
+        find_in(self.writes(process, sizes), item)
     }
 
     /// Where the item stands in the write set, or where that ends.
     pub fn write_slot(&self, process: u8, sizes: Sizes, item: u8) -> u8
         ensures { λ r. ⌜ r ≡ write-slot (task blank (now (now (self .entry) .entries)) process sizes) item ⌝ }
     {
-        slot_in(
-            set_in(self.entries, process, Part::Writes, sizes.writes),
-            item,
-        ) as u8
+        slot_in(self.writes(process, sizes), item) as u8
     }
 
     /// The lowest item of the data set that is not below `from`.
     pub fn next_item(&self, process: u8, sizes: Sizes, from: usize) -> Option<u8>
         ensures { λ r. ⌜ r ≡ next-item (task blank (now (now (self .entry) .entries)) process sizes) from ⌝ }
     {
-        let best = lowest_in(
-            set_in(self.entries, process, Part::Reads, sizes.reads),
-            from,
-            None,
-        );
-        lowest_in(
-            set_in(self.entries, process, Part::Writes, sizes.writes),
-            from,
-            best,
-        )
+        let best = lowest_in(self.reads(process, sizes), from, None);
+        lowest_in(self.writes(process, sizes), from, best)
     }
 
     /// The number with which an item is unlocked: the write set's, else the read set's, else 0.
@@ -121,6 +120,6 @@ impl<'a, V: Kind> Table<'a, V> {
         ensures count { λ r. ⌜ r .0 ≤ set-size ⌝ }
         ensures items { λ r. ⌜ take (r .0) (r .1) ≡ take set-size (map item-of (task blank (now (now (self .entry) .entries)) process sizes .writes)) ⌝ }
     {
-        items_in(set_in(self.entries, process, Part::Writes, sizes.writes))
+        items_in(self.writes(process, sizes))
     }
 }

@@ -1,0 +1,8 @@
+//! The bench player: a script in, what each of its lines told out.
+pub mod fault;
+pub mod report;
+mod values;
+
+pub use fault::Cause;
+pub use fault::Fault;
+pub use report::Report;
