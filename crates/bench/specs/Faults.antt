@@ -2,8 +2,9 @@
 use Prim.Native.Nat.{ℕ}
 use Rattle.std.specs.declared.result.Result.{Result}
 use Rattle.std.specs.declared.result.Result.the-variants.{Ok, Err}
-use Rattle.store.specs.Tells.{Told, refused, refusal-number, answer-told}
-use Rattle.store.specs.declared.answer.Answer.{Answer}
+use Rattle.process.specs.Tells.{Told, refused, answer-told}
+use Rattle.store.specs.Tells.{refusal-number}
+use Rattle.process.specs.declared.answer.Answer.{Answer}
 use Rattle.store.specs.declared.answer.Refusal.{Refusal}
 use Rattle.bench.specs.declared.fault.AtLine.{AtLine}
 use Rattle.bench.specs.declared.fault.Cause.{Cause}

@@ -2,7 +2,7 @@
 -- Values go in as counts and come out as words, by the kind's packing and unpacking.
 use Prim.Native.Nat.{ℕ, _+_}
 use mathlib.Core.List.{List, [], _∷_, _++_}
-use Rattle.store.specs.Tells.{Told, done, going, waiting, value, committed, aborted, refused}
+use Rattle.process.specs.Tells.{Told, done, going, waiting, value, committed, aborted, refused}
 use Rattle.store.specs.declared.calling.Call.{Call}
 use Rattle.store.specs.declared.calling.Call.the-variants.{Begin, Read, Write, TryCommit, Abort, Step}
 

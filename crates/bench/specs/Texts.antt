@@ -8,7 +8,7 @@ use Rattle.std.specs.declared.option.Option.the-variants.{None, Some}
 use Rattle.kinds.specs.Settings.{setting-of}
 use Rattle.kinds.specs.declared.setting.Setting.{Setting}
 use Rattle.kinds.specs.declared.setting.Setting.the-variants.{Off, Speed, Tension, Count}
-use Rattle.store.specs.Tells.{Told, done, going, waiting, value, committed, aborted, refused}
+use Rattle.process.specs.Tells.{Told, done, going, waiting, value, committed, aborted, refused}
 use Rattle.bench.specs.Faults.{line-told}
 use Rattle.bench.specs.declared.report.Report.{Report}
 

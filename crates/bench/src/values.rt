@@ -2,7 +2,7 @@
 ghost use mathlib.Core.Path.{_≡_};
 ghost use Rattle.kinds.specs.Settings.{setting-word};
 ghost use Rattle.kinds.specs.declared.setting.Setting.the-variants.{Count};
-ghost use Rattle.store.specs.Tells.{answer-told};
+ghost use Rattle.process.specs.Tells.{answer-told};
 ghost use Rattle.bench.specs.Plays.{call-with, told-with};
 use kinds::Kind;
 use kinds::Setting;

@@ -17,9 +17,10 @@ use Rattle.rows.specs.Primitives.{replied, lock-in, count-in, said}
 use Rattle.rows.specs.declared.asking.Reply.{Reply}
 use Rattle.rows.specs.declared.place.Place.{Place}
 use Rattle.rows.specs.declared.place.Place.the-variants.{Closed, Idle, R1, R2, R3, R4, R5, D1, D2, C, L1, L2, L3, L4, K, W, U, A1, A2, A3}
-use Rattle.store.specs.Rows.{Turn, placed, go, wait, locked, unlock-to, next-at, move}
-use Rattle.store.specs.Traits.{traits, fresh, Fits}
-use Rattle.store.specs.declared.process.Process.{Process}
+use Rattle.process.specs.Rows.{Turn, placed, go, wait, locked, unlock-to, next-at, move}
+use Rattle.process.specs.Traits.{traits, fresh, full, Fits}
+use Rattle.process.specs.Turns.{Stepped, stepped}
+use Rattle.process.specs.declared.record.Process.{Process}
 
 pub fits-set : (ps : List Process) (i : ℕ) (q : Process) → ((k : ℕ) → Fits (getD ps k fresh)) → Fits q → (k : ℕ) → Fits (getD (set ps i q) k fresh)
 fits-set [] i q h f k = h k
@@ -105,5 +106,10 @@ module _ {V : Type 0} (q : Process) (t : Task V) (f : Fits q) where
   pub move-fits : (blank : V) (cs : List (Record V)) (e : Option (Entry V)) → Fits (move blank cs q t e .process)
   move-fits blank cs e = row-fits blank (q .place) e (replied blank cs (asked t (q .place))) (f .0)
 
-  pub count-fits : (k : ℕ) (a : Bool) → Fits (placed q (count-from t k a))
-  count-fits k a = quiet (count-from t k a) (count-quiet t k a)
+  -- and so of what a step leaves
+  pub stepped-fits : (blank : V) (cs : List (Record V)) (es : List (Entry V)) (p : ℕ) (e : Option (Entry V)) → Fits (stepped blank cs q es p (move blank cs q t e) .process)
+  stepped-fits blank cs es p e = go (full q) _ _ f (move-fits blank cs e)
+    where
+      go : (b : Bool) (x y : Stepped V) → Fits (x .process) → Fits (y .process) → Fits (cond b x y .process)
+      go true x y h k = h
+      go false x y h k = k

@@ -7,7 +7,7 @@ use lib.ListN.{length, getD, drop}
 use Rattle.std.proofs.shelf.Lists.{at-drop-more, at-drop-all}
 use Rattle.std.proofs.shelf.Tests.{or-left}
 use Rattle.store.specs.Calls.{holds-up, remembered}
-use Rattle.store.specs.declared.process.Process.{Process}
+use Rattle.process.specs.declared.record.Process.{Process}
 
 module _ (ps : List Process) (p k : ℕ) where
   module _ (d : Process) (h : k < length ps) where

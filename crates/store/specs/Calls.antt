@@ -16,14 +16,16 @@ use Rattle.rows.specs.Primitives.{still}
 use Rattle.rows.specs.declared.place.Place.{Place}
 use Rattle.rows.specs.declared.place.Place.the-variants.{Idle, R1}
 use Rattle.upkeep.specs.Upkeep.{cleared}
-use Rattle.store.specs.Model.{Memory, State, Outcome, keep, put, process, task-of, with-own, accepted}
-use Rattle.store.specs.Rows.{placed, row}
-use Rattle.store.specs.Tells.{Told, done, going, value, refused}
-use Rattle.store.specs.Traits.{traits, fresh}
+use Rattle.store.specs.Model.{Memory, State, Outcome, process, task-of, with-own, accepted}
+use Rattle.process.specs.Moves.{keep, put}
+use Rattle.store.specs.Rows.{row}
+use Rattle.process.specs.Rows.{placed}
+use Rattle.process.specs.Tells.{Told, done, going, value, refused}
+use Rattle.process.specs.Traits.{traits, fresh}
 use Rattle.store.specs.declared.calling.Call.{Call}
 use Rattle.store.specs.declared.calling.Call.the-variants as call
-use Rattle.store.specs.declared.process.Process.{Process}
-use Rattle.store.specs.declared.process.Status.the-variants.{Null}
+use Rattle.process.specs.declared.record.Process.{Process}
+use Rattle.process.specs.declared.record.Status.the-variants.{Null}
 
 -- a ground for a refusal: its number, and whether it holds
 pub record Ground : Type 0 where

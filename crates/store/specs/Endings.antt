@@ -4,13 +4,13 @@ use mathlib.Core.Bool.{cond}
 use mathlib.Core.List.{List}
 use Rattle.std.specs.declared.option.Option.{Option}
 use Rattle.std.specs.declared.option.Option.the-variants.{None, Some}
-use Rattle.store.specs.Rows.{among}
-use Rattle.store.specs.Traits.{traits}
+use Rattle.process.specs.Rows.{among}
+use Rattle.process.specs.Traits.{traits}
 use Rattle.store.specs.declared.answer.Ending.{Ending}
 use Rattle.store.specs.declared.answer.Ending.the-variants as ending
-use Rattle.store.specs.declared.process.Process.{Process}
-use Rattle.store.specs.declared.process.Status.{Status}
-use Rattle.store.specs.declared.process.Status.the-variants.{Null, Committed, Aborted}
+use Rattle.process.specs.declared.record.Process.{Process}
+use Rattle.process.specs.declared.record.Status.{Status}
+use Rattle.process.specs.declared.record.Status.the-variants.{Null, Committed, Aborted}
 
 abbrev pub ending-by : Status → Ending
 ending-by Null = ending.Aborted

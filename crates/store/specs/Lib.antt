@@ -3,5 +3,3 @@ pub mod Endings
 pub mod Model
 pub mod Rows
 pub mod Tells
-pub mod Traits
-pub mod Turns

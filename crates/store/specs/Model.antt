@@ -1,16 +1,15 @@
 -- The whole state that the calls work on, what a call leaves of it, and what a move of one process makes of it.
-use Prim.Native.Nat.{ℕ, _+_, _-_}
+use Prim.Native.Nat.{ℕ, _-_}
 use mathlib.Core.List.{List}
 use lib.ListN.{getD, set}
 use Rattle.bank.specs.declared.record.Record.{Record}
-use Rattle.table.specs.Sets.{start}
 use Rattle.table.specs.Tasks.{Task, task}
 use Rattle.table.specs.declared.entry.Entry.{Entry}
-use Rattle.table.specs.declared.entry.Part.{Part}
-use Rattle.rows.specs.Primitives.{Touch, touched}
-use Rattle.store.specs.Tells.{Told}
-use Rattle.store.specs.Traits.{fresh}
-use Rattle.store.specs.declared.process.Process.{Process}
+use Rattle.rows.specs.Primitives.{touched}
+use Rattle.process.specs.Moves.{Note, Move, noted}
+use Rattle.process.specs.Tells.{Told}
+use Rattle.process.specs.Traits.{fresh}
+use Rattle.process.specs.declared.record.Process.{Process}
 use Rattle.store.specs.declared.stored.Store.{Store}
 
 -- the store and its working table: all but the bank
@@ -29,18 +28,6 @@ pub record Outcome (V : Type 0) : Type 0 where
   pub tells : Told V
   pub after : State V
 
--- of the table at most one entry of the process's own
-pub data Note (V : Type 0) : Type 0 where
-  keep : Note V
-  put : Part → ℕ → Entry V → Note V
-
--- what an accepted call of a process does: what it tells, the process's own record anew, one touch of the bank, one own entry
-pub record Move (V : Type 0) : Type 0 where
-  pub tells : Told V
-  pub process : Process
-  pub touch : Touch V
-  pub note : Note V
-
 module _ {V : Type 0} where
   abbrev pub outcome : Told V → State V → Outcome V
   outcome t s = record { tells = t; after = s }
@@ -53,10 +40,6 @@ module _ {V : Type 0} where
 
   abbrev pub process : Memory V → ℕ → Process
   process s p = getD (s .processes) (p - 1) fresh
-
-  abbrev pub noted : List (Entry V) → ℕ → Note V → List (Entry V)
-  noted es p keep = es
-  noted es p (put part k e) = set es (start p part + k) e
 
   -- a process's own record and at most one of its entries anew
   abbrev pub with-own : Memory V → ℕ → Process → Note V → Memory V

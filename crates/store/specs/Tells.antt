@@ -1,22 +1,13 @@
--- What a call tells: an answer with its values, or a refusal by its number.
+-- The refusals by their numbers, and what a call tells by its result.
 use Prim.Native.Nat.{ℕ}
 use Rattle.std.specs.declared.option.Option.{Option}
 use Rattle.std.specs.declared.option.Option.the-variants.{None, Some}
 use Rattle.std.specs.declared.result.Result.{Result}
 use Rattle.std.specs.declared.result.Result.the-variants.{Ok, Err}
-use Rattle.store.specs.declared.answer.Answer.{Answer}
-use Rattle.store.specs.declared.answer.Answer.the-variants as answer
+use Rattle.process.specs.Tells.{Told, done, refused, answer-told}
+use Rattle.process.specs.declared.answer.Answer.{Answer}
 use Rattle.store.specs.declared.answer.Refusal.{Refusal}
 use Rattle.store.specs.declared.answer.Refusal.the-variants.{ShortTable, NoProcess, AlreadyOpen, NotOpen, UnderWay, NotUnderWay, Remembered, LifeUsed, NoItem, SetFull, OutsideLimits}
-
-pub data Told (V : Type 0) : Type 0 where
-  done : Told V
-  going : Told V
-  waiting : Told V
-  value : V → Told V
-  committed : Told V
-  aborted : Option ℕ → Told V
-  refused : ℕ → Told V
 
 abbrev pub refusal-number : Refusal → ℕ
 refusal-number ShortTable = 1
@@ -31,18 +22,9 @@ refusal-number NoItem = 9
 refusal-number SetFull = 10
 refusal-number OutsideLimits = 11
 
-module _ {V : Type 0} where
-  abbrev pub answer-told : Answer V → Told V
-  answer-told answer.Done = done
-  answer-told answer.Going = going
-  answer-told answer.Waiting = waiting
-  answer-told (answer.Value v) = value v
-  answer-told answer.Committed = committed
-  answer-told (answer.Aborted cause) = aborted cause
-
-  abbrev pub told : Result (Answer V) Refusal → Told V
-  told (Ok a) = answer-told a
-  told (Err r) = refused (refusal-number r)
+abbrev pub told : {V : Type 0} → Result (Answer V) Refusal → Told V
+told (Ok a) = answer-told a
+told (Err r) = refused (refusal-number r)
 
 -- the number of the refusal, if there is one
 abbrev pub refused-with : {A : Type 0} → Result A Refusal → Option ℕ

@@ -1,23 +1,6 @@
-//! What a call answers, and why it may be refused.
+//! Why a call may be refused, and how a transaction ended.
 ghost use mathlib.Core.Path.{_≡_};
 ghost use Rattle.store.specs.Tells.{refusal-number};
-
-/// The answer to an accepted call.
-#[derive(Clone, Copy)]
-pub enum Answer<V> {
-    /// The call is done.
-    Done,
-    /// An operation is under way.
-    Going,
-    /// An operation is under way, and this step did not get on.
-    Waiting,
-    /// A read ended with this value.
-    Value(V),
-    /// The transaction ended, and counts.
-    Committed,
-    /// The transaction ended without effect: by choice, or because of a commit that wrote this item.
-    Aborted(Option<u8>),
-}
 
 /// How a transaction ended.
 #[derive(Clone, Copy)]

@@ -4,10 +4,10 @@ ghost use mathlib.Core.Path.{_≡_};
 ghost use Rattle.store.specs.Calls.{called};
 ghost use Rattle.store.specs.Model.{outcome, state};
 ghost use Rattle.store.specs.Tells.{told};
-use crate::answer::Answer;
 use crate::answer::Refusal;
 use crate::stored::Store;
 use bank::Bank;
+use process::Answer;
 use table::Table;
 
 /// One call on a store that is set up.

@@ -9,17 +9,17 @@ ghost use Rattle.store.specs.Calls.{read-by, write-by, reached, begin as begin
 ghost use Rattle.store.specs.Endings.{ending-of};
 ghost use Rattle.store.specs.Model.{outcome, state, memory, task-of};
 ghost use Rattle.store.specs.Tells.{told, set-up-told};
-ghost use Rattle.store.specs.Traits.{Fits, fresh, traits};
-use crate::answer::Answer;
+ghost use Rattle.process.specs.Traits.{Fits, fresh, traits};
 use crate::answer::Ending;
 use crate::answer::Refusal;
-use crate::process::Process;
-use crate::process::Status;
 use crate::stored::Store;
 use bank::Bank;
 use bank::MOST_PROCESSES;
 use bank::SET_SIZE;
 use kinds::Kind;
+use process::Answer;
+use process::Process;
+use process::Status;
 use rows::Place;
 use table::Entry;
 use table::Part;
@@ -135,10 +135,10 @@ impl Store {
     {
         self.check_step(table, process)?;
         let owned = self.recalled(table, self.processes[process - 1].place);
-        Ok(
-            self.processes[process - 1]
-                .step(bank, table, process as u8, owned),
-        )
+        match self.processes[process - 1].step(bank, table, process as u8, owned) {
+            Some(answer) => Ok(answer),
+            None => unreachable(),
+        }
     }
 
     /// How the process's latest transaction ended: none while it is open, aborted if there was none.

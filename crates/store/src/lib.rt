@@ -3,14 +3,10 @@ pub mod answer;
 pub mod calling;
 pub mod calls;
 mod checks;
-pub mod process;
-mod stepping;
 pub mod stored;
 
-pub use answer::Answer;
 pub use answer::Ending;
 pub use answer::Refusal;
 pub use calling::Call;
-pub use process::Process;
-pub use process::Status;
+pub use process::Answer;
 pub use stored::Store;

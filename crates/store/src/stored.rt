@@ -2,9 +2,9 @@
 ghost use lib.ListN.{getD};
 ghost use Prim.Native.Nat.{ℕ, _≤_};
 ghost use Rattle.bank.specs.Limits.{most-processes};
-ghost use Rattle.store.specs.Traits.{Fits, fresh};
-use crate::process::Process;
+ghost use Rattle.process.specs.Traits.{Fits, fresh};
 use bank::MOST_PROCESSES;
+use process::Process;
 
 /// The processes, how many of them there are, and how many begins are left.
 pub struct Store {

@@ -16,8 +16,8 @@ use Rattle.kinds.specs.declared.setting.Setting.the-variants.{Off, Speed, Tensi
 use Rattle.bank.specs.declared.record.Record.{Record}
 use Rattle.store.specs.Calls.{called, set-up}
 use Rattle.store.specs.Model.{State}
-use Rattle.store.specs.Tells.{Told, going, waiting, value, committed, aborted}
-use Rattle.store.specs.Traits.{fresh}
+use Rattle.process.specs.Tells.{Told, going, waiting, value, committed, aborted}
+use Rattle.process.specs.Traits.{fresh}
 use Rattle.store.specs.declared.calling.Call.{Call}
 use Rattle.store.specs.declared.calling.Call.the-variants.{Begin, Read, Write, TryCommit, Step}
 use Rattle.table.specs.Sets.{blank-entry}

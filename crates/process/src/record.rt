@@ -19,8 +19,8 @@ pub struct Process {
 }
 
 impl Process {
-    // A process that never began.
-    pub(crate) const FRESH: Process = Process {
+    /// A process that never began.
+    pub const FRESH: Process = Process {
         status: Status::Null,
         sizes: Sizes {
             reads: 0,

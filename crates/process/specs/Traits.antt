@@ -1,11 +1,12 @@
 -- What a place says of its process: one table for all questions about places.
 use Prim.Native.Nat.{ℕ, _+_, _≤_}
 use mathlib.Core.Bool.{Bool, true, false}
+use lib.Dec.{ltb}
 use Rattle.bank.specs.Limits.{set-size}
 use Rattle.rows.specs.declared.place.Place.{Place}
 use Rattle.rows.specs.declared.place.Place.the-variants.{Closed, Idle, R1, R2, R3, R4, R5, D1, D2, C, L1, L2, L3, L4, K, W, U, A1, A2, A3}
-use Rattle.store.specs.declared.process.Process.{Process}
-use Rattle.store.specs.declared.process.Status.the-variants.{Null}
+use Rattle.process.specs.declared.record.Process.{Process}
+use Rattle.process.specs.declared.record.Status.the-variants.{Null}
 
 -- whether a transaction is open, whether an operation is under way, which owner the process remembers (0 for none),
 -- and how many entries the operation under way will add to the read set
@@ -50,3 +51,7 @@ fresh = record { status = Null; sizes = record { reads = 0; writes = 0 }; place 
 -- neither set is larger than eight, and a read under way has room for its entry
 abbrev pub Fits : Process → Type 0
 Fits q = (q .sizes .reads + traits (q .place) .ahead ≤ set-size) × (q .sizes .writes ≤ set-size)
+
+-- a read is under way, and its entry finds no room
+abbrev pub full : Process → Bool
+full q = ltb set-size (q .sizes .reads + traits (q .place) .ahead)

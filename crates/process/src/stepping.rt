@@ -3,19 +3,21 @@ ghost use denote.Ref.{name};
 ghost use mathlib.Core.Path.{_≡_};
 ghost use Prim.Native.Nat.{_<_, _≤_, _+_};
 ghost use Rattle.std.specs.declared.option.Option.the-variants.{Some, None};
+ghost use Rattle.bank.specs.Limits.{set-size};
 ghost use Rattle.rows.specs.Primitives.{touched};
 ghost use Rattle.rows.specs.Places.{seen-to};
 ghost use Rattle.table.specs.Tasks.{task, next-item, sequence-or};
-ghost use Rattle.store.specs.Model.{noted};
-ghost use Rattle.store.specs.Rows.{placed, decided, read-one, go as go-def, wait as wait-def, fetched, settled, numbered, unlock-to, written-to, move as move-def};
-ghost use Rattle.store.specs.Tells.{answer-told, committed};
-ghost use Rattle.store.specs.Turns.{turned, done-by, stepped, stepped-by};
-ghost use Rattle.store.specs.Traits.{Fits};
+ghost use Rattle.process.specs.Moves.{noted};
+ghost use Rattle.process.specs.Rows.{placed, decided, read-one, go as go-def, wait as wait-def, fetched, settled, numbered, unlock-to, written-to, move as move-def};
+ghost use Rattle.process.specs.Tells.{answer-told, committed};
+ghost use Rattle.process.specs.Turns.{turned, done-by, ran, ran-by, stepped, stepped-by};
+ghost use Rattle.process.specs.Traits.{traits, full};
 use crate::answer::Answer;
-use crate::process::Process;
-use crate::process::Status;
+use crate::record::Process;
+use crate::record::Status;
 use bank::Bank;
 use bank::Lock;
+use bank::SET_SIZE;
 use kinds::Kind;
 use rows::Place;
 use rows::Reply;
@@ -175,7 +177,6 @@ impl Process {
 
     // W at the entry after `at` of the write set; after the last U.
     fn write_after<V: Kind>(&mut self, table: &Table<'_, V>, me: u8, at: u8) -> Answer<V>
-        requires { ⌜ now self .sizes .writes ≤ 8 ⌝ }
         ensures { λ r. ⌜ done-by r (now (self .exit)) (now (now (table .entry) .entries)) ≡ turned (now (now (table .entry) .entries)) me (written-to (now (self .entry)) (task blank (now (now (table .entry) .entries)) me (now (self .entry) .sizes)) at) ⌝ }
     {
         if at < self.sizes.writes && at + 1 < self.sizes.writes {
@@ -184,16 +185,47 @@ impl Process {
         self.unlock_from(table, me, 0)
     }
 
-    /// Runs the row that the process stands before: asks the bank, and goes on from place and reply.
-    pub(crate) fn step<B: Bank>(
+    // Whether a read is under way whose entry would find no room.
+    fn is_full(&self) -> bool
+        ensures { λ r. ⌜ r ≡ full (now (self .entry)) ⌝ }
+    {
+        match self.place {
+            Place::R1 { .. }
+            | Place::R2 { .. }
+            | Place::R3 { .. }
+            | Place::R4 { .. }
+            | Place::R5 { .. } => self.sizes.reads as usize >= SET_SIZE,
+            _ => self.sizes.reads as usize > SET_SIZE,
+        }
+    }
+
+    /// Runs the row that the process stands before. In a store a read always has room for its entry; without room nothing is done.
+    pub fn step<B: Bank>(
+        &mut self,
+        bank: &mut B,
+        table: &mut Table<'_, B::Value>,
+        me: u8,
+        owned: Option<Entry<B::Value>>,
+    ) -> Option<Answer<B::Value>>
+        ensures exact { λ r. ⌜ stepped-by r (cells (now (bank .exit))) (now (self .exit)) (now (now (table .exit) .entries)) ≡ stepped (Value·Kind .blank) (cells (now (bank .entry))) (now (self .entry)) (now (now (table .entry) .entries)) me (move-def (Value·Kind .blank) (cells (now (bank .entry))) (now (self .entry)) (task (Value·Kind .blank) (now (now (table .entry) .entries)) me (now (self .entry) .sizes)) owned) ⌝ }
+        ensures stays { λ _. ⌜ name (now (table .exit) .entries) ≡ name (now (table .entry) .entries) ⌝ ∗ ⌜ places (now (bank .exit)) ≡ places (now (bank .entry)) ⌝ }
+    {
+        if self.is_full() {
+            return None;
+        }
+        Some(self.run(bank, table, me, owned))
+    }
+
+    // Runs the row: asks the bank, and goes on from place and reply.
+    fn run<B: Bank>(
         &mut self,
         bank: &mut B,
         table: &mut Table<'_, B::Value>,
         me: u8,
         owned: Option<Entry<B::Value>>,
     ) -> Answer<B::Value>
-        requires { ⌜ Fits (now self) ⌝ }
-        ensures exact { λ r. ⌜ stepped-by r (cells (now (bank .exit))) (now (self .exit)) (now (now (table .exit) .entries)) ≡ stepped (Value·Kind .blank) (cells (now (bank .entry))) (now (now (table .entry) .entries)) me (move-def (Value·Kind .blank) (cells (now (bank .entry))) (now (self .entry)) (task (Value·Kind .blank) (now (now (table .entry) .entries)) me (now (self .entry) .sizes)) owned) ⌝ }
+        requires { ⌜ now self .sizes .reads + traits (now self .place) .ahead ≤ set-size ⌝ }
+        ensures exact { λ r. ⌜ ran-by r (cells (now (bank .exit))) (now (self .exit)) (now (now (table .exit) .entries)) ≡ ran (Value·Kind .blank) (cells (now (bank .entry))) (now (now (table .entry) .entries)) me (move-def (Value·Kind .blank) (cells (now (bank .entry))) (now (self .entry)) (task (Value·Kind .blank) (now (now (table .entry) .entries)) me (now (self .entry) .sizes)) owned) ⌝ }
         ensures stays { λ _. ⌜ name (now (table .exit) .entries) ≡ name (now (table .entry) .entries) ⌝ ∗ ⌜ places (now (bank .exit)) ≡ places (now (bank .entry)) ⌝ }
     {
         let reply = ask(self.place, bank, table, me, self.sizes);
