@@ -1,4 +1,5 @@
 -- What the player tells of a line: what the store told, or refusal 12 for what is no call line.
+use mathlib.Core.Path.{_≡_}
 use Prim.Native.Nat.{ℕ}
 use Rattle.std.specs.declared.result.Result.{Result}
 use Rattle.std.specs.declared.result.Result.the-variants.{Ok, Err}
@@ -25,3 +26,8 @@ on-line n (Err r) = Err (record { line = n; refusal = r })
 abbrev pub line-told : {V : Type 0} → Result (Answer V) Fault → Told V
 line-told (Ok a) = answer-told a
 line-told (Err f) = refused (cause-number (f .cause))
+
+-- a fault has the line's number
+abbrev pub At : {A : Type 0} → ℕ → Result A Fault → Type 0
+At n (Ok a) = Unit {0}
+At n (Err f) = f .line ≡ n

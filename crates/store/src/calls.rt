@@ -135,7 +135,8 @@ impl Store {
     {
         self.check_step(table, process)?;
         let owned = self.recalled(table, self.processes[process - 1].place);
-        match self.processes[process - 1].step(bank, table, process as u8, owned) {
+        match self.processes[process - 1]
+            .step(bank, table, process as u8, owned) {
             Some(answer) => Ok(answer),
             None => unreachable(),
         }

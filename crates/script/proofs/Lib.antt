@@ -1,0 +1,4 @@
+mod Cuts
+mod Forms
+mod Numbers
+mod Words
