@@ -2,11 +2,15 @@
 -- Values go in as counts and come out as words, by the kind's packing and unpacking.
 use Prim.Native.Nat.{ℕ, _+_}
 use mathlib.Core.List.{List, [], _∷_, _++_}
-use lib.ListN.{take}
+use lib.ListN.{take, replicate}
 use Rattle.std.specs.declared.option.Option.{Option}
 use Rattle.std.specs.declared.option.Option.the-variants.{None, Some}
 use Rattle.kinds.specs.Settings.{setting-word}
 use Rattle.kinds.specs.declared.setting.Setting.the-variants.{Count}
+use Rattle.bank.specs.Limits.{most-processes}
+use Rattle.bank.specs.declared.record.Record.{Record}
+use Rattle.table.specs.declared.entry.Entry.{Entry}
+use Rattle.process.specs.Traits.{fresh}
 use Rattle.store.specs.Calls.{called, set-up}
 use Rattle.store.specs.Model.{State}
 use Rattle.script.specs.Grammar.{call-of, lines-of}
@@ -40,6 +44,10 @@ pub record Turn (V : Type 0) : Type 0 where
 abbrev pub turn : {V : Type 0} → Told ℕ → State V → Turn V
 turn t s = record { tells = t; after = s }
 
+-- a store that was never set up
+abbrev pub unused : {V : Type 0} → List (Record V) → List (Entry V) → State V
+unused cs es = record { cells = cs; memory = record { processes = replicate most-processes fresh; number = 0; life = 0; entries = es } }
+
 module _ {V : Type 0} (blank : V) (pack : V → ℕ) (unpack : ℕ → V) where
   -- a count goes in as the value of the word that it has as a setting
   abbrev pub made : State V → Call ℕ → Turn V
@@ -61,5 +69,5 @@ module _ {V : Type 0} (blank : V) (pack : V → ℕ) (unpack : ℕ → V) where
   printed s n (l ∷ ls) = line-text n (line-turn s l .tells) ++ printed (line-turn s l .after) (n + 1) ls
 
   -- set-up with four processes and a life of 1,000, and then the first 65,536 bytes of a script
-  abbrev pub played : State V → List ℕ → List ℕ
-  played s input = printed (set-up s 4 1000 .after) 1 (lines-of (take 65536 input))
+  abbrev pub played : List (Record V) → List (Entry V) → List ℕ → List ℕ
+  played cs es input = printed (set-up (unused cs es) 4 1000 .after) 1 (lines-of (take 65536 input))

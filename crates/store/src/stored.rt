@@ -7,6 +7,7 @@ use bank::MOST_PROCESSES;
 use process::Process;
 
 /// The processes, how many of them there are, and how many begins are left.
+#[derive(Drop)]
 pub struct Store {
     pub(crate) processes: [Process; MOST_PROCESSES as usize],
     pub(crate) number: u8,
