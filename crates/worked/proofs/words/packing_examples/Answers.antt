@@ -1,14 +1,14 @@
 use mathlib.Core.Path.{refl}
 use mathlib.Core.List.{[], _∷_}
-use lib.Ieee.{toBits, ofBits}
+use lib.Ieee.{toBits}
 use Rattle.worked.proofs.Packings.{nan-in, zero-out, ignored-in, off-in}
 use Rattle.worked.proofs.words.packing_examples.Needs as need
 
 pub returns : need.returns
-unfolding toBits ofBits
+unfolding toBits
 returns c =
     record {
-      words = λ i. c .pack .ensures .word i ∷ c .pack-2 .ensures .word i ∷ c .pack-3 .ensures .word i ∷ [];
+      words = λ i. c .tension .ensures i ∷ c .knot .ensures i ∷ c .lowest-knot .ensures i ∷ [];
       worked =
           record {
             tension = refl;
