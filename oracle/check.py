@@ -69,7 +69,7 @@ def main():
             return False
         return True
 
-    for path in sorted(glob.glob(os.path.join(HERE, 'examples', '*.script'))):
+    for path in sorted(glob.glob(os.path.join(HERE, '..', 'crates', 'replay', 'data', '*.script'))):
         with open(path, 'rb') as f:
             script = f.read()
         with open(path[:-len('script')] + 'expected', 'rb') as f:
