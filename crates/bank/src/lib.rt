@@ -1,4 +1,6 @@
 //! Banks: for each item of the store a value, a lock and a count of its readers.
+#![tactic(auto)]
+
 pub mod bank_trait;
 pub mod limits;
 pub mod lock;

@@ -1,4 +1,6 @@
 //! The bench player: a script in, what each of its lines told out.
+#![tactic(auto)]
+
 pub mod fault;
 pub mod report;
 pub mod session;

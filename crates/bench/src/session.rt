@@ -54,7 +54,7 @@ pub fn play_lines<B: Bank>(
     table: &mut Table<'_, B::Value>,
     input: &[u8],
 ) -> Result<String, fmt::Error>
-    ensures { IfOk result (λ s. string_bytes s ≡ printed B.Value.Kind.blank B.Value.Kind.packing B.Value.Kind.unpacking (state (cells bank.old) store.old table.old.entries.now) 1 (lines_of input.now)) }
+    ensures { IfOk result (λ s. string_bytes s ≡ printed B.Value.blank B.Value.packing B.Value.unpacking (state (B.cells bank.old) store.old table.old.entries.now) 1 (lines_of input.now)) }
 {
     let mut out = String::new(heap);
     let mut number = 1usize;
@@ -75,7 +75,7 @@ pub fn play<V: Kind>(
     entries: &mut [Entry<V>],
     input: &[u8],
 ) -> Result<String, fmt::Error>
-    ensures { IfOk result (λ s. string_bytes s ≡ played V.Kind.blank V.Kind.packing V.Kind.unpacking records.old entries.old input.now) }
+    ensures { IfOk result (λ s. string_bytes s ≡ played V.blank V.packing V.unpacking records.old entries.old input.now) }
 {
     let mut bank = RecordBank::new(records);
     let mut table = Table::new(entries);

@@ -19,9 +19,9 @@ fn make<B: Bank>(
     number: usize,
     call: Call<u32>,
 ) -> Result<Answer<u64>, Fault>
-    ensures exact { turn_def (line_told result) (state (cells bank.new) store.new table.new.entries.now) ≡ made B.Value.Kind.blank B.Value.Kind.packing B.Value.Kind.unpacking (state (cells bank.old) store.old table.old.entries.now) call }
+    ensures exact { turn_def (line_told result) (state (B.cells bank.new) store.new table.new.entries.now) ≡ made B.Value.blank B.Value.packing B.Value.unpacking (state (B.cells bank.old) store.old table.old.entries.now) call }
     ensures line { At number result }
-    ensures bank { places bank.new ≡ places bank.old }
+    ensures bank { B.places bank.new ≡ B.places bank.old }
     ensures table { table.new.entries.ghost_name ≡ table.old.entries.ghost_name }
 {
     let answer = at_line(number, store.call(bank, table, with_value(call)))?;
@@ -36,9 +36,9 @@ pub fn play_line<B: Bank>(
     number: usize,
     line: &[u8],
 ) -> Result<Answer<u64>, Fault>
-    ensures exact { turn_def (line_told result) (state (cells bank.new) store.new table.new.entries.now) ≡ line_turn B.Value.Kind.blank B.Value.Kind.packing B.Value.Kind.unpacking (state (cells bank.old) store.old table.old.entries.now) line.now }
+    ensures exact { turn_def (line_told result) (state (B.cells bank.new) store.new table.new.entries.now) ≡ line_turn B.Value.blank B.Value.packing B.Value.unpacking (state (B.cells bank.old) store.old table.old.entries.now) line.now }
     ensures line { At number result }
-    ensures bank { places bank.new ≡ places bank.old }
+    ensures bank { B.places bank.new ≡ B.places bank.old }
     ensures table { table.new.entries.ghost_name ≡ table.old.entries.ghost_name }
 {
     let Ok(call) = parse(line) else {

@@ -10,14 +10,14 @@ use store::{Answer, Call};
 
 // The value of a count, by the word that it has as a setting.
 fn value_of<V: Kind>(count: u32) -> V
-    ensures { result ≡ unpacking (setting_word (Count count)) }
+    ensures { result ≡ V.unpacking (setting_word (Count count)) }
 {
     V::unpack(Setting::Count(count).pack())
 }
 
 // The call with its count as a value.
 pub fn with_value<V: Kind>(call: Call<u32>) -> Call<V>
-    ensures { result ≡ call_with (λ n. unpacking (setting_word (Count n))) call }
+    ensures { result ≡ call_with (λ n. V.unpacking (setting_word (Count n))) call }
 {
     match call {
         Call::Begin { process } => Call::Begin { process },
@@ -39,7 +39,7 @@ pub fn with_value<V: Kind>(call: Call<u32>) -> Call<V>
 
 // The answer with its value as a word.
 pub fn with_word<V: Kind>(answer: Answer<V>) -> Answer<u64>
-    ensures { answer_told result ≡ told_with packing (answer_told answer) }
+    ensures { answer_told result ≡ told_with V.packing (answer_told answer) }
 {
     match answer {
         Answer::Done => Answer::Done,

@@ -1,4 +1,6 @@
 //! The kinds of value that a bank can keep, each packed into one 64-bit word.
+#![tactic(auto)]
+
 pub mod kind;
 pub mod knot;
 pub mod setting;

@@ -35,7 +35,7 @@ impl<'a, V: Kind> PackedBank<'a, V> {
 impl<V: Kind> Bank for PackedBank<'_, V> {
     type Value = V;
 
-    ghost cells = { λ b. cells_in V.Kind.unpacking b.words.now };
+    ghost cells = { λ b. cells_in V.unpacking b.words.now };
 
     ghost places = { λ b. b.words.ghost_name ∷ [] };
 
@@ -56,8 +56,8 @@ impl<V: Kind> Bank for PackedBank<'_, V> {
     }
 
     fn write_lock(&mut self, item: usize, lock: Lock) -> bool
-        ensures answer { result ≡ stores_lock (cells_in V.Kind.unpacking self.old.words.now) item lock }
-        ensures after { cells_in V.Kind.unpacking self.new.words.now ≡ change result (with_lock lock) V.Kind.blank (cells_in V.Kind.unpacking self.old.words.now) item }
+        ensures answer { result ≡ stores_lock (cells_in V.unpacking self.old.words.now) item lock }
+        ensures after { cells_in V.unpacking self.new.words.now ≡ change result (with_lock lock) V.blank (cells_in V.unpacking self.old.words.now) item }
         ensures stays { self.new.words.ghost_name ∷ [] ≡ self.old.words.ghost_name ∷ [] }
         ensures words { self.new.words.now ≡ put_word result (3 * item) (lock_word lock) self.old.words.now }
     {
@@ -65,18 +65,18 @@ impl<V: Kind> Bank for PackedBank<'_, V> {
     }
 
     fn write_value(&mut self, item: usize, value: V) -> bool
-        ensures answer { result ≡ has (cells_in V.Kind.unpacking self.old.words.now) item }
-        ensures after { cells_in V.Kind.unpacking self.new.words.now ≡ change result (with_value value) V.Kind.blank (cells_in V.Kind.unpacking self.old.words.now) item }
+        ensures answer { result ≡ has (cells_in V.unpacking self.old.words.now) item }
+        ensures after { cells_in V.unpacking self.new.words.now ≡ change result (with_value value) V.blank (cells_in V.unpacking self.old.words.now) item }
         ensures stays { self.new.words.ghost_name ∷ [] ≡ self.old.words.ghost_name ∷ [] }
-        ensures words { self.new.words.now ≡ put_word result (3 * item + 2) (V.Kind.packing value) self.old.words.now }
+        ensures words { self.new.words.now ≡ put_word result (3 * item + 2) (V.packing value) self.old.words.now }
     {
         let word = value.pack();
         write_word_in(self.words, item, word)
     }
 
     fn swap_lock(&mut self, item: usize, expected: Lock, lock: Lock) -> bool
-        ensures answer { result ≡ swaps_lock V.Kind.blank (cells_in V.Kind.unpacking self.old.words.now) item expected lock }
-        ensures after { cells_in V.Kind.unpacking self.new.words.now ≡ change result (with_lock lock) V.Kind.blank (cells_in V.Kind.unpacking self.old.words.now) item }
+        ensures answer { result ≡ swaps_lock V.blank (cells_in V.unpacking self.old.words.now) item expected lock }
+        ensures after { cells_in V.unpacking self.new.words.now ≡ change result (with_lock lock) V.blank (cells_in V.unpacking self.old.words.now) item }
         ensures stays { self.new.words.ghost_name ∷ [] ≡ self.old.words.ghost_name ∷ [] }
         ensures words { self.new.words.now ≡ put_word result (3 * item) (lock_word lock) self.old.words.now }
     {
@@ -84,8 +84,8 @@ impl<V: Kind> Bank for PackedBank<'_, V> {
     }
 
     fn swap_count(&mut self, item: usize, expected: u8, count: u8) -> bool
-        ensures answer { result ≡ swaps_count V.Kind.blank (cells_in V.Kind.unpacking self.old.words.now) item expected count }
-        ensures after { cells_in V.Kind.unpacking self.new.words.now ≡ change result (with_count count) V.Kind.blank (cells_in V.Kind.unpacking self.old.words.now) item }
+        ensures answer { result ≡ swaps_count V.blank (cells_in V.unpacking self.old.words.now) item expected count }
+        ensures after { cells_in V.unpacking self.new.words.now ≡ change result (with_count count) V.blank (cells_in V.unpacking self.old.words.now) item }
         ensures stays { self.new.words.ghost_name ∷ [] ≡ self.old.words.ghost_name ∷ [] }
         ensures words { self.new.words.now ≡ put_word result (3 * item + 1) (count_word count) self.old.words.now }
     {

@@ -52,7 +52,7 @@ pub fn read_count_in(words: &[u64], item: usize) -> u8
 }
 
 pub fn read_value_in<V: Kind>(words: &[u64], item: usize) -> V
-    ensures { result ≡ (if has_words words.now item then unpacking (slice_index words.now (3 * item + 2)) else blank) }
+    ensures { result ≡ (if has_words words.now item then V.unpacking (slice_index words.now (3 * item + 2)) else V.blank) }
 {
     if item < items_in(words) {
         return V::unpack(words[ITEM_WORDS * item + 2]);

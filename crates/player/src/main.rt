@@ -1,4 +1,6 @@
 //! The bench player: plays the script on standard input over four settings, all off, and prints what each line told.
+#![tactic(auto)]
+
 use bank::{Lock, Record};
 use bench::play;
 use kinds::Setting;

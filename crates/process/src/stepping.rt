@@ -29,7 +29,7 @@ fn sequence_or<V: Kind>(sequence: u64, owned: Option<Entry<V>>) -> u64
 
 // L2: without an owner the number is compared; else the owner is asked first.
 fn seen<V: Kind>(table: &Table<'_, V>, me: u8, sizes: Sizes, item: u8, lock: Lock) -> Place
-    ensures { result ≡ seen_to (task blank table.now.entries.now me sizes) item lock }
+    ensures { result ≡ seen_to (task V.blank table.now.entries.now me sizes) item lock }
 {
     if lock.owner == 0 {
         return Place::compared(table, me, sizes, item, lock.sequence);
@@ -83,7 +83,7 @@ impl Process {
         value: V,
     ) -> Answer<V>
         requires { self.old.sizes.reads < 8 }
-        ensures exact { done_by result self.new table.new.entries.now ≡ turned table.old.entries.now me (fetched self.old (task blank table.old.entries.now me self.old.sizes) item lock value) }
+        ensures exact { done_by result self.new table.new.entries.now ≡ turned table.old.entries.now me (fetched self.old (task V.blank table.old.entries.now me self.old.sizes) item lock value) }
         ensures stays { table.new.entries.ghost_name ≡ table.old.entries.ghost_name }
     {
         let entry = Entry {
@@ -108,7 +108,7 @@ impl Process {
         owned: Option<Entry<V>>,
     ) -> Answer<V>
         requires { self.old.sizes.reads < 8 }
-        ensures exact { done_by result self.new table.new.entries.now ≡ turned table.old.entries.now me (settled self.old (task blank table.old.entries.now me self.old.sizes) owned) }
+        ensures exact { done_by result self.new table.new.entries.now ≡ turned table.old.entries.now me (settled self.old (task V.blank table.old.entries.now me self.old.sizes) owned) }
         ensures stays { table.new.entries.ghost_name ≡ table.old.entries.ghost_name }
     {
         let at = self.sizes.reads;
@@ -124,7 +124,7 @@ impl Process {
 
     // The item's entry of the write set, if there is one, takes the number.
     fn number<V: Kind>(&self, table: &mut Table<'_, V>, me: u8, item: u8, sequence: u64)
-        ensures after { table.new.entries.now ≡ noted table.old.entries.now me (numbered self.now (task blank table.old.entries.now me self.now.sizes) item sequence) }
+        ensures after { table.new.entries.now ≡ noted table.old.entries.now me (numbered self.now (task V.blank table.old.entries.now me self.now.sizes) item sequence) }
         ensures stays { table.new.entries.ghost_name ≡ table.old.entries.ghost_name }
     {
         let at = table.write_slot(me, self.sizes, item);
@@ -145,7 +145,7 @@ impl Process {
 
     // U at the next item; after the last the transaction ends.
     fn unlock_from<V: Kind>(&mut self, table: &Table<'_, V>, me: u8, from: usize) -> Answer<V>
-        ensures { done_by result self.new table.now.entries.now ≡ turned table.now.entries.now me (unlock_to self.old (next_item (task blank table.now.entries.now me self.old.sizes) from)) }
+        ensures { done_by result self.new table.now.entries.now ≡ turned table.now.entries.now me (unlock_to self.old (next_item (task V.blank table.now.entries.now me self.old.sizes) from)) }
     {
         match table.next_item(me, self.sizes, from) {
             Some(item) => self.go(Place::U { item }),
@@ -167,7 +167,7 @@ impl Process {
 
     // W at the entry after `at` of the write set; after the last U.
     fn write_after<V: Kind>(&mut self, table: &Table<'_, V>, me: u8, at: u8) -> Answer<V>
-        ensures { done_by result self.new table.now.entries.now ≡ turned table.now.entries.now me (written_to self.old (task blank table.now.entries.now me self.old.sizes) at) }
+        ensures { done_by result self.new table.now.entries.now ≡ turned table.now.entries.now me (written_to self.old (task V.blank table.now.entries.now me self.old.sizes) at) }
     {
         if at < self.sizes.writes && at + 1 < self.sizes.writes {
             return self.go(Place::W { at: at + 1 });
@@ -197,8 +197,8 @@ impl Process {
         me: u8,
         owned: Option<Entry<B::Value>>,
     ) -> Option<Answer<B::Value>>
-        ensures exact { stepped_by result (cells bank.new) self.new table.new.entries.now ≡ stepped B.Value.Kind.blank (cells bank.old) self.old table.old.entries.now me (move_def B.Value.Kind.blank (cells bank.old) self.old (task B.Value.Kind.blank table.old.entries.now me self.old.sizes) owned) }
-        ensures stays { (table.new.entries.ghost_name ≡ table.old.entries.ghost_name) × (places bank.new ≡ places bank.old) }
+        ensures exact { stepped_by result (B.cells bank.new) self.new table.new.entries.now ≡ stepped B.Value.blank (B.cells bank.old) self.old table.old.entries.now me (move_def B.Value.blank (B.cells bank.old) self.old (task B.Value.blank table.old.entries.now me self.old.sizes) owned) }
+        ensures stays { (table.new.entries.ghost_name ≡ table.old.entries.ghost_name) × (B.places bank.new ≡ B.places bank.old) }
     {
         if self.is_full() {
             return None;
@@ -215,8 +215,8 @@ impl Process {
         owned: Option<Entry<B::Value>>,
     ) -> Answer<B::Value>
         requires { self.old.sizes.reads + (traits self.old.place).ahead ≤ set_size }
-        ensures exact { ran_by result (cells bank.new) self.new table.new.entries.now ≡ ran B.Value.Kind.blank (cells bank.old) table.old.entries.now me (move_def B.Value.Kind.blank (cells bank.old) self.old (task B.Value.Kind.blank table.old.entries.now me self.old.sizes) owned) }
-        ensures stays { (table.new.entries.ghost_name ≡ table.old.entries.ghost_name) × (places bank.new ≡ places bank.old) }
+        ensures exact { ran_by result (B.cells bank.new) self.new table.new.entries.now ≡ ran B.Value.blank (B.cells bank.old) table.old.entries.now me (move_def B.Value.blank (B.cells bank.old) self.old (task B.Value.blank table.old.entries.now me self.old.sizes) owned) }
+        ensures stays { (table.new.entries.ghost_name ≡ table.old.entries.ghost_name) × (B.places bank.new ≡ B.places bank.old) }
     {
         let reply = ask(self.place, bank, table, me, self.sizes);
         let sizes = self.sizes;

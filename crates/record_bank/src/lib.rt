@@ -1,4 +1,6 @@
 //! A bank over a lent table of records, of any kind: item i is record i.
+#![tactic(auto)]
+
 ghost use Rattle.std.specs.Prelude.{◌≡◌, [], ◌∷◌};
 ghost use Rattle.bank.specs.Cells.{cell_at, has, stores_lock, swaps_lock, swaps_count, change, with_lock, with_value, with_count};
 
@@ -22,7 +24,7 @@ impl<'a, V: Kind> RecordBank<'a, V> {
 }
 
 fn record_at<V: Kind>(records: &[Record<V>], item: usize) -> Record<V>
-    ensures { result ≡ cell_at blank records.now item }
+    ensures { result ≡ cell_at V.blank records.now item }
 {
     if item < records.len() {
         return records[item];
@@ -36,7 +38,7 @@ fn record_at<V: Kind>(records: &[Record<V>], item: usize) -> Record<V>
 
 fn write_lock_in<V: Kind>(records: &mut [Record<V>], item: usize, lock: Lock) -> bool
     ensures answer { result ≡ stores_lock records.old item lock }
-    ensures after { records.new ≡ change result (with_lock lock) blank records.old item }
+    ensures after { records.new ≡ change result (with_lock lock) V.blank records.old item }
 {
     if item >= records.len() || !lock.is_storable() {
         return false;
@@ -47,7 +49,7 @@ fn write_lock_in<V: Kind>(records: &mut [Record<V>], item: usize, lock: Lock) ->
 
 fn write_value_in<V: Kind>(records: &mut [Record<V>], item: usize, value: V) -> bool
     ensures answer { result ≡ has records.old item }
-    ensures after { records.new ≡ change result (with_value value) blank records.old item }
+    ensures after { records.new ≡ change result (with_value value) V.blank records.old item }
 {
     if item >= records.len() {
         return false;
@@ -57,8 +59,8 @@ fn write_value_in<V: Kind>(records: &mut [Record<V>], item: usize, value: V) -> 
 }
 
 fn swap_lock_in<V: Kind>(records: &mut [Record<V>], item: usize, expected: Lock, lock: Lock) -> bool
-    ensures answer { result ≡ swaps_lock blank records.old item expected lock }
-    ensures after { records.new ≡ change result (with_lock lock) blank records.old item }
+    ensures answer { result ≡ swaps_lock V.blank records.old item expected lock }
+    ensures after { records.new ≡ change result (with_lock lock) V.blank records.old item }
 {
     let old = record_at(records, item);
     if item >= records.len() || !lock.is_storable() || !old.lock.is_same(expected) {
@@ -69,8 +71,8 @@ fn swap_lock_in<V: Kind>(records: &mut [Record<V>], item: usize, expected: Lock,
 }
 
 fn swap_count_in<V: Kind>(records: &mut [Record<V>], item: usize, expected: u8, count: u8) -> bool
-    ensures answer { result ≡ swaps_count blank records.old item expected count }
-    ensures after { records.new ≡ change result (with_count count) blank records.old item }
+    ensures answer { result ≡ swaps_count V.blank records.old item expected count }
+    ensures after { records.new ≡ change result (with_count count) V.blank records.old item }
 {
     let old = record_at(records, item);
     if item >= records.len() || count > MOST_PROCESSES || old.count != expected {

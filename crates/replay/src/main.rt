@@ -1,4 +1,6 @@
 //! Plays every example script, and tells whether it printed what is expected of it.
+#![tactic(auto)]
+
 use bank::{Lock, Record};
 use bench::play;
 use kinds::Setting;

@@ -24,16 +24,16 @@ pub enum Reply<V> {
 
 // Counts one reader more. A count of 255 has no successor here; the bank says no to 255 as it does to 256.
 fn count_in<B: Bank>(bank: &mut B, item: usize, count: u8) -> bool
-    ensures answer { result ≡ swaps_count Value-as-Kind.blank (cells bank.old) item count (count + 1) }
-    ensures after { cells bank.new ≡ change result (with_count (count + 1)) Value-as-Kind.blank (cells bank.old) item }
-    ensures stays { places bank.new ≡ places bank.old }
+    ensures answer { result ≡ swaps_count B.Value.blank (B.cells bank.old) item count (count + 1) }
+    ensures after { B.cells bank.new ≡ change result (with_count (count + 1)) B.Value.blank (B.cells bank.old) item }
+    ensures stays { B.places bank.new ≡ B.places bank.old }
 {
     bank.swap_count(item, count, count.saturating_add(1))
 }
 
 // Whether nobody is counted in on an item of the write set.
 fn unread<B: Bank>(bank: &B, table: &Table<'_, B::Value>, me: u8, sizes: Sizes) -> bool
-    ensures { result ≡ all_zero B.Value.Kind.blank (cells bank.now) (take set_size (map item_of (task B.Value.Kind.blank table.now.entries.now me sizes).writes)) }
+    ensures { result ≡ all_zero B.Value.blank (B.cells bank.now) (take set_size (map item_of (task B.Value.blank table.now.entries.now me sizes).writes)) }
 {
     let (count, items) = table.write_items(me, sizes);
     bank.all_zero(&items[0..count])
@@ -61,9 +61,9 @@ pub fn ask<B: Bank>(
     me: u8,
     sizes: Sizes,
 ) -> Reply<B::Value>
-    ensures reply { result ≡ replied B.Value.Kind.blank (cells bank.old) (asked (task B.Value.Kind.blank table.now.entries.now me sizes) place) }
-    ensures after { cells bank.new ≡ touched B.Value.Kind.blank (cells bank.old) (if_said (said result) (touching (asked (task B.Value.Kind.blank table.now.entries.now me sizes) place))) }
-    ensures stays { places bank.new ≡ places bank.old }
+    ensures reply { result ≡ replied B.Value.blank (B.cells bank.old) (asked (task B.Value.blank table.now.entries.now me sizes) place) }
+    ensures after { B.cells bank.new ≡ touched B.Value.blank (B.cells bank.old) (if_said (said result) (touching (asked (task B.Value.blank table.now.entries.now me sizes) place))) }
+    ensures stays { B.places bank.new ≡ B.places bank.old }
 {
     match place {
         Place::Closed

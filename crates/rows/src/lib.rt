@@ -1,4 +1,6 @@
 //! The rows of the step table: where a process stands, what is asked of the bank there, and where it goes from there.
+#![tactic(auto)]
+
 pub mod asking;
 pub mod next;
 pub mod place;

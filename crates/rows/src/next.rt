@@ -11,7 +11,7 @@ use table::{Sizes, Table};
 impl Place {
     /// L1 at the lowest item of the data set not below `from`; after the last item K.
     pub fn lock_from<V: Kind>(table: &Table<'_, V>, me: u8, sizes: Sizes, from: usize) -> Place
-        ensures { result ≡ lock_to (next_item (task blank table.now.entries.now me sizes) from) }
+        ensures { result ≡ lock_to (next_item (task V.blank table.now.entries.now me sizes) from) }
     {
         match table.next_item(me, sizes, from) {
             Some(item) => Place::L1 { item },
@@ -27,7 +27,7 @@ impl Place {
         from: usize,
         cause: Option<u8>,
     ) -> Place
-        ensures { result ≡ abort_to cause (next_item (task blank table.now.entries.now me sizes) from) }
+        ensures { result ≡ abort_to cause (next_item (task V.blank table.now.entries.now me sizes) from) }
     {
         match table.next_item(me, sizes, from) {
             Some(item) => Place::A1 { item, cause },
@@ -37,7 +37,7 @@ impl Place {
 
     // After the read set is counted out.
     fn counted_out<V: Kind>(table: &Table<'_, V>, me: u8, sizes: Sizes, abort: bool) -> Place
-        ensures { result ≡ counted_out_def (task blank table.now.entries.now me sizes) abort }
+        ensures { result ≡ counted_out_def (task V.blank table.now.entries.now me sizes) abort }
     {
         if abort {
             return Place::abort_from(table, me, sizes, 0, None);
@@ -56,7 +56,7 @@ impl Place {
         at: usize,
         abort: bool,
     ) -> Place
-        ensures { result ≡ count_from (task blank table.now.entries.now me sizes) at abort }
+        ensures { result ≡ count_from (task V.blank table.now.entries.now me sizes) at abort }
     {
         if at < sizes.reads as usize {
             return Place::D1 {
@@ -75,7 +75,7 @@ impl Place {
         item: u8,
         sequence: u64,
     ) -> Place
-        ensures { result ≡ compared_def (task blank table.now.entries.now me sizes) item sequence }
+        ensures { result ≡ compared_def (task V.blank table.now.entries.now me sizes) item sequence }
     {
         match table.in_reads(me, sizes, item) {
             Some(entry) if entry.sequence != sequence => Place::abort_from(
@@ -98,7 +98,7 @@ impl Place {
         lock: Lock,
         cause: Option<u8>,
     ) -> Place
-        ensures { result ≡ released_def (task blank table.now.entries.now me sizes) item lock cause }
+        ensures { result ≡ released_def (task V.blank table.now.entries.now me sizes) item lock cause }
     {
         if lock.owner == me {
             return Place::A2 {

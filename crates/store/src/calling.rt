@@ -44,8 +44,8 @@ impl Store {
         table: &mut Table<'_, B::Value>,
         call: Call<B::Value>,
     ) -> Result<Answer<B::Value>, Refusal>
-        ensures exact { outcome (told result) (state (cells bank.new) self.new table.new.entries.now) ≡ called B.Value.Kind.blank (state (cells bank.old) self.old table.old.entries.now) call }
-        ensures bank { places bank.new ≡ places bank.old }
+        ensures exact { outcome (told result) (state (B.cells bank.new) self.new table.new.entries.now) ≡ called B.Value.blank (state (B.cells bank.old) self.old table.old.entries.now) call }
+        ensures bank { B.places bank.new ≡ B.places bank.old }
         ensures table { table.new.entries.ghost_name ≡ table.old.entries.ghost_name }
     {
         match call {

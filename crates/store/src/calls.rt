@@ -25,8 +25,8 @@ impl Store {
         table: &mut Table<'_, B::Value>,
         process: usize,
     ) -> Result<Answer<B::Value>, Refusal>
-        ensures exact { outcome (told result) (state (cells bank.new) self.new table.new.entries.now) ≡ begin_def B.Value.Kind.blank (state (cells bank.old) self.old table.old.entries.now) process }
-        ensures bank { places bank.new ≡ places bank.old }
+        ensures exact { outcome (told result) (state (B.cells bank.new) self.new table.new.entries.now) ≡ begin_def B.Value.blank (state (B.cells bank.old) self.old table.old.entries.now) process }
+        ensures bank { B.places bank.new ≡ B.places bank.old }
         ensures table { table.new.entries.ghost_name ≡ table.old.entries.ghost_name }
     {
         self.check_begin(table, process)?;
@@ -51,8 +51,8 @@ impl Store {
         process: usize,
         item: usize,
     ) -> Result<Answer<B::Value>, Refusal>
-        ensures exact { outcome (told result) (state (cells bank.new) self.new table.new.entries.now) ≡ read_def B.Value.Kind.blank (state (cells bank.old) self.old table.old.entries.now) process item }
-        ensures bank { places bank.new ≡ places bank.old }
+        ensures exact { outcome (told result) (state (B.cells bank.new) self.new table.new.entries.now) ≡ read_def B.Value.blank (state (B.cells bank.old) self.old table.old.entries.now) process item }
+        ensures bank { B.places bank.new ≡ B.places bank.old }
         ensures table { table.new.entries.ghost_name ≡ table.old.entries.ghost_name }
     {
         self.check_item(bank, table, process, item)?;
@@ -68,8 +68,8 @@ impl Store {
         item: usize,
         value: B::Value,
     ) -> Result<Answer<B::Value>, Refusal>
-        ensures exact { outcome (told result) (state (cells bank.new) self.new table.new.entries.now) ≡ write_def B.Value.Kind.blank (state (cells bank.old) self.old table.old.entries.now) process item value }
-        ensures bank { places bank.new ≡ places bank.old }
+        ensures exact { outcome (told result) (state (B.cells bank.new) self.new table.new.entries.now) ≡ write_def B.Value.blank (state (B.cells bank.old) self.old table.old.entries.now) process item value }
+        ensures bank { B.places bank.new ≡ B.places bank.old }
         ensures table { table.new.entries.ghost_name ≡ table.old.entries.ghost_name }
     {
         self.check_item(bank, table, process, item)?;
@@ -83,8 +83,8 @@ impl Store {
         table: &mut Table<'_, B::Value>,
         process: usize,
     ) -> Result<Answer<B::Value>, Refusal>
-        ensures exact { outcome (told result) (state (cells bank.new) self.new table.new.entries.now) ≡ try_commit_def B.Value.Kind.blank (state (cells bank.old) self.old table.old.entries.now) process }
-        ensures bank { places bank.new ≡ places bank.old }
+        ensures exact { outcome (told result) (state (B.cells bank.new) self.new table.new.entries.now) ≡ try_commit_def B.Value.blank (state (B.cells bank.old) self.old table.old.entries.now) process }
+        ensures bank { B.places bank.new ≡ B.places bank.old }
         ensures table { table.new.entries.ghost_name ≡ table.old.entries.ghost_name }
     {
         self.check_operation(table, process)?;
@@ -101,8 +101,8 @@ impl Store {
         table: &mut Table<'_, B::Value>,
         process: usize,
     ) -> Result<Answer<B::Value>, Refusal>
-        ensures exact { outcome (told result) (state (cells bank.new) self.new table.new.entries.now) ≡ abort_def B.Value.Kind.blank (state (cells bank.old) self.old table.old.entries.now) process }
-        ensures bank { places bank.new ≡ places bank.old }
+        ensures exact { outcome (told result) (state (B.cells bank.new) self.new table.new.entries.now) ≡ abort_def B.Value.blank (state (B.cells bank.old) self.old table.old.entries.now) process }
+        ensures bank { B.places bank.new ≡ B.places bank.old }
         ensures table { table.new.entries.ghost_name ≡ table.old.entries.ghost_name }
     {
         self.check_operation(table, process)?;
@@ -119,8 +119,8 @@ impl Store {
         table: &mut Table<'_, B::Value>,
         process: usize,
     ) -> Result<Answer<B::Value>, Refusal>
-        ensures exact { outcome (told result) (state (cells bank.new) self.new table.new.entries.now) ≡ step_def B.Value.Kind.blank (state (cells bank.old) self.old table.old.entries.now) process }
-        ensures bank { places bank.new ≡ places bank.old }
+        ensures exact { outcome (told result) (state (B.cells bank.new) self.new table.new.entries.now) ≡ step_def B.Value.blank (state (B.cells bank.old) self.old table.old.entries.now) process }
+        ensures bank { B.places bank.new ≡ B.places bank.old }
         ensures table { table.new.entries.ghost_name ≡ table.old.entries.ghost_name }
     {
         self.check_step(table, process)?;
@@ -167,8 +167,8 @@ impl Store {
         processes: usize,
         life: u64,
     ) -> Result<(), Refusal>
-        ensures exact { outcome (set_up_told result) (state (cells bank.new) self.new table.new.entries.now) ≡ set_up_def (state (cells bank.old) self.old table.old.entries.now) processes life }
-        ensures bank { places bank.new ≡ places bank.old }
+        ensures exact { outcome (set_up_told result) (state (B.cells bank.new) self.new table.new.entries.now) ≡ set_up_def (state (B.cells bank.old) self.old table.old.entries.now) processes life }
+        ensures bank { B.places bank.new ≡ B.places bank.old }
         ensures table { table.new.entries.ghost_name ≡ table.old.entries.ghost_name }
     {
         self.check_set_up(bank, table, processes, life)?;
@@ -197,7 +197,7 @@ impl Store {
         item: u8,
     ) -> Result<Answer<V>, Refusal>
         requires { (0 < process) × (process ≤ self.old.number) }
-        ensures { reached (told result) (memory self.new table.now.entries.now) ≡ read_by blank (memory self.old table.now.entries.now) process item (in_writes (task_of blank (memory self.old table.now.entries.now) process) item) (in_reads (task_of blank (memory self.old table.now.entries.now) process) item) }
+        ensures { reached (told result) (memory self.new table.now.entries.now) ≡ read_by V.blank (memory self.old table.now.entries.now) process item (in_writes (task_of V.blank (memory self.old table.now.entries.now) process) item) (in_reads (task_of V.blank (memory self.old table.now.entries.now) process) item) }
     {
         let old = self.processes[process - 1];
         if let Some(entry) = table.in_writes(process as u8, old.sizes, item) {
@@ -224,7 +224,7 @@ impl Store {
     ) -> Result<Answer<V>, Refusal>
         requires there { (0 < process) × (process ≤ self.old.number) }
         requires idle { (traits (slice_index_or self.old.processes (process - 1) fresh).place).ahead ≡ 0 }
-        ensures exact { reached (told result) (memory self.new table.new.entries.now) ≡ write_by blank (memory self.old table.old.entries.now) process item value (in_writes (task_of blank (memory self.old table.old.entries.now) process) item) }
+        ensures exact { reached (told result) (memory self.new table.new.entries.now) ≡ write_by V.blank (memory self.old table.old.entries.now) process item value (in_writes (task_of V.blank (memory self.old table.old.entries.now) process) item) }
         ensures table { table.new.entries.ghost_name ≡ table.old.entries.ghost_name }
     {
         let old = self.processes[process - 1];

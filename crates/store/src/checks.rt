@@ -160,7 +160,7 @@ impl Store {
 
     // The item's entry in the write set of an owner that has committed.
     fn owned<V: Kind>(&self, table: &Table<'_, V>, owner: u8, item: u8) -> Option<Entry<V>>
-        ensures { result ≡ owned_def blank (memory self.now table.now.entries.now) owner item }
+        ensures { result ≡ owned_def V.blank (memory self.now table.now.entries.now) owner item }
     {
         if owner == 0 || owner > self.number {
             return None;
@@ -174,7 +174,7 @@ impl Store {
 
     // The entry of the remembered owner, where the row asks for it.
     pub(crate) fn recalled<V: Kind>(&self, table: &Table<'_, V>, place: Place) -> Option<Entry<V>>
-        ensures { result ≡ recalled_def blank (memory self.now table.now.entries.now) place }
+        ensures { result ≡ recalled_def V.blank (memory self.now table.now.entries.now) place }
     {
         match place {
             Place::R5 { item, lock } | Place::L3 { item, lock } => self.owned(

@@ -1,4 +1,6 @@
 //! The store: transactions of up to 16 processes over the items of a bank, one primitive a step.
+#![tactic(auto)]
+
 pub mod answer;
 pub mod calling;
 pub mod calls;

@@ -1,4 +1,6 @@
 //! The working table: what each process has read and is going to write, over entries that the caller lends.
+#![tactic(auto)]
+
 pub mod entry;
 mod sets;
 pub mod working_table;

@@ -9,7 +9,7 @@ use kinds::Kind;
 
 // The entry at an index; past the end a blank one.
 pub fn entry_in<V: Kind>(entries: &[Entry<V>], at: usize) -> Entry<V>
-    ensures { result ≡ entry_at blank entries.now at }
+    ensures { result ≡ entry_at V.blank entries.now at }
 {
     if at < entries.len() {
         return entries[at];

@@ -33,7 +33,7 @@ impl<'a, V: Kind> Table<'a, V> {
 
     /// An entry of a process's part; past the table's end a blank one.
     pub fn entry(&self, process: u8, part: Part, at: u8) -> Entry<V>
-        ensures { result ≡ entry_at blank self.now.entries.now (start process part + at) }
+        ensures { result ≡ entry_at V.blank self.now.entries.now (start process part + at) }
     {
         entry_in(self.entries, part.start(process) + at as usize)
     }
@@ -48,7 +48,7 @@ impl<'a, V: Kind> Table<'a, V> {
 
     // The read set.
     fn reads(&self, process: u8, sizes: Sizes) -> &[Entry<V>]
-        ensures set { result.now ≡ (task blank self.now.entries.now process sizes).reads }
+        ensures set { result.now ≡ (task V.blank self.now.entries.now process sizes).reads }
         ensures few { length result.now ≤ sizes.reads }
     {
         set_in(self.entries, process, Part::Reads, sizes.reads)
@@ -56,7 +56,7 @@ impl<'a, V: Kind> Table<'a, V> {
 
     // The write set.
     fn writes(&self, process: u8, sizes: Sizes) -> &[Entry<V>]
-        ensures set { result.now ≡ (task blank self.now.entries.now process sizes).writes }
+        ensures set { result.now ≡ (task V.blank self.now.entries.now process sizes).writes }
         ensures few { length result.now ≤ sizes.writes }
     {
         set_in(self.entries, process, Part::Writes, sizes.writes)
@@ -64,28 +64,28 @@ impl<'a, V: Kind> Table<'a, V> {
 
     /// The entry of the read set that has the item.
     pub fn in_reads(&self, process: u8, sizes: Sizes, item: u8) -> Option<Entry<V>>
-        ensures { result ≡ in_reads (task blank self.now.entries.now process sizes) item }
+        ensures { result ≡ in_reads (task V.blank self.now.entries.now process sizes) item }
     {
         find_in(self.reads(process, sizes), item)
     }
 
     /// The entry of the write set that has the item.
     pub fn in_writes(&self, process: u8, sizes: Sizes, item: u8) -> Option<Entry<V>>
-        ensures { result ≡ in_writes (task blank self.now.entries.now process sizes) item }
+        ensures { result ≡ in_writes (task V.blank self.now.entries.now process sizes) item }
     {
         find_in(self.writes(process, sizes), item)
     }
 
     /// Where the item stands in the write set, or where that ends.
     pub fn write_slot(&self, process: u8, sizes: Sizes, item: u8) -> u8
-        ensures { result ≡ write_slot (task blank self.now.entries.now process sizes) item }
+        ensures { result ≡ write_slot (task V.blank self.now.entries.now process sizes) item }
     {
         slot_in(self.writes(process, sizes), item) as u8
     }
 
     /// The lowest item of the data set that is not below `from`.
     pub fn next_item(&self, process: u8, sizes: Sizes, from: usize) -> Option<u8>
-        ensures { result ≡ next_item (task blank self.now.entries.now process sizes) from }
+        ensures { result ≡ next_item (task V.blank self.now.entries.now process sizes) from }
     {
         let best = lowest_in(self.reads(process, sizes), from, None);
         lowest_in(self.writes(process, sizes), from, best)
@@ -93,7 +93,7 @@ impl<'a, V: Kind> Table<'a, V> {
 
     /// The number with which an item is unlocked: the write set's, else the read set's, else 0.
     pub fn unlock_sequence(&self, process: u8, sizes: Sizes, item: u8) -> u64
-        ensures { result ≡ unlock_sequence (task blank self.now.entries.now process sizes) item }
+        ensures { result ≡ unlock_sequence (task V.blank self.now.entries.now process sizes) item }
     {
         if let Some(entry) = self.in_writes(process, sizes, item) {
             return entry.sequence;
@@ -107,7 +107,7 @@ impl<'a, V: Kind> Table<'a, V> {
     /// How many entries the write set has, of more than eight the first eight, and their items with zeros behind them.
     pub fn write_items(&self, process: u8, sizes: Sizes) -> (usize, [usize; SET_SIZE])
         ensures count { result.0 ≤ set_size }
-        ensures items { take result.0 result.1 ≡ take set_size (map item_of (task blank self.now.entries.now process sizes).writes) }
+        ensures items { take result.0 result.1 ≡ take set_size (map item_of (task V.blank self.now.entries.now process sizes).writes) }
     {
         items_in(self.writes(process, sizes))
     }

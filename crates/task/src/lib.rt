@@ -1,4 +1,6 @@
 //! A task that runs a whole transaction, by tickets.
+#![tactic(auto)]
+
 ghost use Rattle.std.specs.Prelude.{◌≡◌};
 ghost use Rattle.store.specs.Calls.{write as write_def};
 ghost use Rattle.store.specs.Model.{state};
@@ -33,9 +35,9 @@ pub fn put<B: Bank>(
     value: B::Value,
     steps: u32,
 ) -> Left
-    ensures exact { state (cells bank.new) store.new table.new.entries.now ≡ put_def B.Value.Kind.blank process item value steps (state (cells bank.old) store.old table.old.entries.now) }
+    ensures exact { state (B.cells bank.new) store.new table.new.entries.now ≡ put_def B.Value.blank process item value steps (state (B.cells bank.old) store.old table.old.entries.now) }
     ensures left { Leaves result process store.new }
-    ensures bank { places bank.new ≡ places bank.old }
+    ensures bank { B.places bank.new ≡ B.places bank.old }
     ensures table { table.new.entries.ghost_name ≡ table.old.entries.ghost_name }
 {
     match OpenTicket::begin(store, bank, table, process) {
@@ -54,9 +56,9 @@ fn put_open<B: Bank>(
     value: B::Value,
     steps: u32,
 ) -> Left
-    ensures exact { state (cells bank.new) store.new table.new.entries.now ≡ after_write B.Value.Kind.blank ticket.process steps (write_def B.Value.Kind.blank (state (cells bank.old) store.old table.old.entries.now) ticket.process item value) }
+    ensures exact { state (B.cells bank.new) store.new table.new.entries.now ≡ after_write B.Value.blank ticket.process steps (write_def B.Value.blank (state (B.cells bank.old) store.old table.old.entries.now) ticket.process item value) }
     ensures left { Leaves result ticket.process store.new }
-    ensures bank { places bank.new ≡ places bank.old }
+    ensures bank { B.places bank.new ≡ B.places bank.old }
     ensures table { table.new.entries.ghost_name ≡ table.old.entries.ghost_name }
 {
     match ticket.write(store, bank, table, item, value) {
@@ -79,9 +81,9 @@ fn close<B: Bank>(
     table: &mut Table<'_, B::Value>,
     steps: u32,
 ) -> Left
-    ensures exact { state (cells bank.new) store.new table.new.entries.now ≡ stepped_by B.Value.Kind.blank closed steps (state (cells bank.old) store.old table.old.entries.now) }
+    ensures exact { state (B.cells bank.new) store.new table.new.entries.now ≡ stepped_by B.Value.blank closed steps (state (B.cells bank.old) store.old table.old.entries.now) }
     ensures left { Leaves result (holder_of closed) store.new }
-    ensures bank { places bank.new ≡ places bank.old }
+    ensures bank { B.places bank.new ≡ B.places bank.old }
     ensures table { table.new.entries.ghost_name ≡ table.old.entries.ghost_name }
 {
     let ticket = match closed {
@@ -103,8 +105,8 @@ fn run<B: Bank>(
     table: &mut Table<'_, B::Value>,
     steps: u32,
 )
-    ensures exact { state (cells bank.new) store.new table.new.entries.now ≡ stepped B.Value.Kind.blank ticket.now.process steps (state (cells bank.old) store.old table.old.entries.now) }
-    ensures bank { places bank.new ≡ places bank.old }
+    ensures exact { state (B.cells bank.new) store.new table.new.entries.now ≡ stepped B.Value.blank ticket.now.process steps (state (B.cells bank.old) store.old table.old.entries.now) }
+    ensures bank { B.places bank.new ≡ B.places bank.old }
     ensures table { table.new.entries.ghost_name ≡ table.old.entries.ghost_name }
 {
     for _done in 0..steps {

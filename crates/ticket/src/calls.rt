@@ -16,8 +16,8 @@ pub fn begin<B: Bank>(
     table: &mut Table<'_, B::Value>,
     process: usize,
 ) -> Result<(), Refusal>
-    ensures exact { outcome (told_as done result) (state (cells bank.new) store.new table.new.entries.now) ≡ begin_def B.Value.Kind.blank (state (cells bank.old) store.old table.old.entries.now) process }
-    ensures bank { places bank.new ≡ places bank.old }
+    ensures exact { outcome (told_as done result) (state (B.cells bank.new) store.new table.new.entries.now) ≡ begin_def B.Value.blank (state (B.cells bank.old) store.old table.old.entries.now) process }
+    ensures bank { B.places bank.new ≡ B.places bank.old }
     ensures table { table.new.entries.ghost_name ≡ table.old.entries.ghost_name }
 {
     match store.begin(bank, table, process) {
@@ -33,8 +33,8 @@ pub fn try_commit<B: Bank>(
     table: &mut Table<'_, B::Value>,
     process: usize,
 ) -> Result<(), Refusal>
-    ensures exact { outcome (told_as going result) (state (cells bank.new) store.new table.new.entries.now) ≡ try_commit_def B.Value.Kind.blank (state (cells bank.old) store.old table.old.entries.now) process }
-    ensures bank { places bank.new ≡ places bank.old }
+    ensures exact { outcome (told_as going result) (state (B.cells bank.new) store.new table.new.entries.now) ≡ try_commit_def B.Value.blank (state (B.cells bank.old) store.old table.old.entries.now) process }
+    ensures bank { B.places bank.new ≡ B.places bank.old }
     ensures table { table.new.entries.ghost_name ≡ table.old.entries.ghost_name }
 {
     match store.try_commit(bank, table, process) {
@@ -50,8 +50,8 @@ pub fn abort<B: Bank>(
     table: &mut Table<'_, B::Value>,
     process: usize,
 ) -> Result<(), Refusal>
-    ensures exact { outcome (told_as going result) (state (cells bank.new) store.new table.new.entries.now) ≡ abort_def B.Value.Kind.blank (state (cells bank.old) store.old table.old.entries.now) process }
-    ensures bank { places bank.new ≡ places bank.old }
+    ensures exact { outcome (told_as going result) (state (B.cells bank.new) store.new table.new.entries.now) ≡ abort_def B.Value.blank (state (B.cells bank.old) store.old table.old.entries.now) process }
+    ensures bank { B.places bank.new ≡ B.places bank.old }
     ensures table { table.new.entries.ghost_name ≡ table.old.entries.ghost_name }
 {
     match store.abort(bank, table, process) {

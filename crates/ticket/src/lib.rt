@@ -2,6 +2,8 @@
 //!
 //! A begin hands out an open ticket, and a try-commit or an abort that is accepted turns it into a closing one.
 //! That is spent by `finish`, once the transaction has ended. No ticket may be let go in another way.
+#![tactic(auto)]
+
 mod calls;
 pub mod closing;
 pub mod open;

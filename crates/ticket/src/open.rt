@@ -40,9 +40,9 @@ impl OpenTicket {
         table: &mut Table<'_, B::Value>,
         process: usize,
     ) -> Result<OpenTicket, Refusal>
-        ensures exact { outcome (told_as done result) (state (cells bank.new) store.new table.new.entries.now) ≡ begin_def B.Value.Kind.blank (state (cells bank.old) store.old table.old.entries.now) process }
+        ensures exact { outcome (told_as done result) (state (B.cells bank.new) store.new table.new.entries.now) ≡ begin_def B.Value.blank (state (B.cells bank.old) store.old table.old.entries.now) process }
         ensures ticket { Begun result process }
-        ensures bank { places bank.new ≡ places bank.old }
+        ensures bank { B.places bank.new ≡ B.places bank.old }
         ensures table { table.new.entries.ghost_name ≡ table.old.entries.ghost_name }
     {
         calls::begin(store, bank, table, process)?;
@@ -56,9 +56,9 @@ impl OpenTicket {
         bank: &mut B,
         table: &mut Table<'_, B::Value>,
     ) -> Result<ClosingTicket, Refused>
-        ensures exact { outcome (closing_told result) (state (cells bank.new) store.new table.new.entries.now) ≡ try_commit_def B.Value.Kind.blank (state (cells bank.old) store.old table.old.entries.now) self.process }
+        ensures exact { outcome (closing_told result) (state (B.cells bank.new) store.new table.new.entries.now) ≡ try_commit_def B.Value.blank (state (B.cells bank.old) store.old table.old.entries.now) self.process }
         ensures ticket { holder_of result ≡ self.process }
-        ensures bank { places bank.new ≡ places bank.old }
+        ensures bank { B.places bank.new ≡ B.places bank.old }
         ensures table { table.new.entries.ghost_name ≡ table.old.entries.ghost_name }
     {
         match calls::try_commit(store, bank, table, self.process) {
@@ -80,9 +80,9 @@ impl OpenTicket {
         bank: &mut B,
         table: &mut Table<'_, B::Value>,
     ) -> Result<ClosingTicket, Refused>
-        ensures exact { outcome (closing_told result) (state (cells bank.new) store.new table.new.entries.now) ≡ abort_def B.Value.Kind.blank (state (cells bank.old) store.old table.old.entries.now) self.process }
+        ensures exact { outcome (closing_told result) (state (B.cells bank.new) store.new table.new.entries.now) ≡ abort_def B.Value.blank (state (B.cells bank.old) store.old table.old.entries.now) self.process }
         ensures ticket { holder_of result ≡ self.process }
-        ensures bank { places bank.new ≡ places bank.old }
+        ensures bank { B.places bank.new ≡ B.places bank.old }
         ensures table { table.new.entries.ghost_name ≡ table.old.entries.ghost_name }
     {
         match calls::abort(store, bank, table, self.process) {

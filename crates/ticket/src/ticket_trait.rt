@@ -29,8 +29,8 @@ pub trait Ticket {
         item: usize,
     ) -> Result<Answer<B::Value>, Refusal>
         requires { Opened self.now }
-        ensures exact { outcome (told result) (state (cells bank.new) store.new table.new.entries.now) ≡ read_def B.Value.Kind.blank (state (cells bank.old) store.old table.old.entries.now) (holder self.now) item }
-        ensures bank { places bank.new ≡ places bank.old }
+        ensures exact { outcome (told result) (state (B.cells bank.new) store.new table.new.entries.now) ≡ read_def B.Value.blank (state (B.cells bank.old) store.old table.old.entries.now) (holder self.now) item }
+        ensures bank { B.places bank.new ≡ B.places bank.old }
         ensures table { table.new.entries.ghost_name ≡ table.old.entries.ghost_name }
     {
         store.read(bank, table, self.process(), item)
@@ -46,8 +46,8 @@ pub trait Ticket {
         value: B::Value,
     ) -> Result<Answer<B::Value>, Refusal>
         requires { Opened self.now }
-        ensures exact { outcome (told result) (state (cells bank.new) store.new table.new.entries.now) ≡ write_def B.Value.Kind.blank (state (cells bank.old) store.old table.old.entries.now) (holder self.now) item value }
-        ensures bank { places bank.new ≡ places bank.old }
+        ensures exact { outcome (told result) (state (B.cells bank.new) store.new table.new.entries.now) ≡ write_def B.Value.blank (state (B.cells bank.old) store.old table.old.entries.now) (holder self.now) item value }
+        ensures bank { B.places bank.new ≡ B.places bank.old }
         ensures table { table.new.entries.ghost_name ≡ table.old.entries.ghost_name }
     {
         store.write(bank, table, self.process(), item, value)
@@ -60,8 +60,8 @@ pub trait Ticket {
         bank: &mut B,
         table: &mut Table<'_, B::Value>,
     ) -> Result<Answer<B::Value>, Refusal>
-        ensures exact { outcome (told result) (state (cells bank.new) store.new table.new.entries.now) ≡ step_def B.Value.Kind.blank (state (cells bank.old) store.old table.old.entries.now) (holder self.now) }
-        ensures bank { places bank.new ≡ places bank.old }
+        ensures exact { outcome (told result) (state (B.cells bank.new) store.new table.new.entries.now) ≡ step_def B.Value.blank (state (B.cells bank.old) store.old table.old.entries.now) (holder self.now) }
+        ensures bank { B.places bank.new ≡ B.places bank.old }
         ensures table { table.new.entries.ghost_name ≡ table.old.entries.ghost_name }
     {
         store.step(bank, table, self.process())

@@ -1,4 +1,6 @@
 //! Examples worked through: theorems on the definitions, and vectors as tests.
+#![tactic(auto)]
+
 #[cfg(test)]
 mod bank_tests;
 #[cfg(test)]

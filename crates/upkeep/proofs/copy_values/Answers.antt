@@ -9,9 +9,9 @@ pub loop-item-preserved : goal.loop-item-preserved
 loop-item-preserved g c =
     let fs = g.A.Bank.cells c.args.from.now in
     let cs = g.B.Bank.cells c.args.to.now in (
-      c.copy-value.ensures.after
+      c.copy_value.ensures.after
           ∙ copied_more g.A.Value.Kind.blank c.loop-item.item fs cs (g.B.Bank.cells c.loop-item.to) (omega (arith, c.items-item-end.ensures, c.loop-item-test.true)) c.loop-item.invariant.0,
-      c.copy-value.ensures.stays ∙ c.loop-item.invariant.1,
+      c.copy_value.ensures.stays ∙ c.loop-item.invariant.1,
     )
 
 pub returns : goal.returns

@@ -12,11 +12,11 @@ returns g c =
     let i = c.args.item in
     let n = c.args.count in
     let x = c.args.expected in
-    let e = c.swap-count-in.ensures.answer in
+    let e = c.swap_count_in.ensures.answer in
     record {
       answer = e ∙ ap (λ (t : Bool). t && storable_count n && eqb (count_in ws i) x) (has_is u b ws i)
           ∙ ap (λ (m : ℕ). has (cells_in u ws) i && storable_count n && eqb m x) (count_is u b ws i);
-      after = count_after u b ws n i c.swap-count-in.result (eqb (count_in ws i) x) c.swap-count-in.new.words e c.swap-count-in.ensures.after;
+      after = count_after u b ws n i c.swap_count_in.result (eqb (count_in ws i) x) c.swap_count_in.new.words e c.swap_count_in.ensures.after;
       stays = refl;
-      words = c.swap-count-in.ensures.after;
+      words = c.swap_count_in.ensures.after;
     }

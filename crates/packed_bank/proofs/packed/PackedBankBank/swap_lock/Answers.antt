@@ -13,11 +13,11 @@ returns g c =
     let i = c.args.item in
     let l = c.args.lock in
     let x = c.args.expected in
-    let e = c.swap-lock-in.ensures.answer in
+    let e = c.swap_lock_in.ensures.answer in
     record {
       answer = e ∙ ap (λ (t : Bool). t && storable l && same_lock (lock_in ws i) x) (has_is u b ws i)
           ∙ ap (λ (m : Lock). has (cells_in u ws) i && storable l && same_lock m x) (lock_is u b ws i);
-      after = lock_after u b ws l i c.swap-lock-in.result (same_lock (lock_in ws i) x) c.swap-lock-in.new.words e c.swap-lock-in.ensures.after;
+      after = lock_after u b ws l i c.swap_lock_in.result (same_lock (lock_in ws i) x) c.swap_lock_in.new.words e c.swap_lock_in.ensures.after;
       stays = refl;
-      words = c.swap-lock-in.ensures.after;
+      words = c.swap_lock_in.ensures.after;
     }

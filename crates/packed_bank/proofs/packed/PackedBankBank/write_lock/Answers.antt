@@ -10,10 +10,10 @@ returns g c =
     let ws = c.args.self.now.words.now in
     let i = c.args.item in
     let l = c.args.lock in
-    let e = c.write-lock-in.ensures.answer in
+    let e = c.write_lock_in.ensures.answer in
     record {
       answer = e ∙ ap (λ (t : Bool). t && storable l) (has_is u b ws i);
-      after = lock_after u b ws l i c.write-lock-in.result true c.write-lock-in.new.words (e ∙ and_true _) c.write-lock-in.ensures.after;
+      after = lock_after u b ws l i c.write_lock_in.result true c.write_lock_in.new.words (e ∙ and_true _) c.write_lock_in.ensures.after;
       stays = refl;
-      words = c.write-lock-in.ensures.after;
+      words = c.write_lock_in.ensures.after;
     }

@@ -11,11 +11,11 @@ returns g c =
     let i = c.args.item in
     let v = c.args.value in
     let w = c.pack-word.result in
-    let e = c.write-word-in.ensures.answer in
+    let e = c.write_word_in.ensures.answer in
     let back = ap u c.pack-word.ensures.word ∙ g.met.V.Kind.back v c.pack-word.ensures.held in
     record {
       answer = e ∙ has_is u b ws i;
-      after = value_after u b ws v w i c.write-word-in.result c.write-word-in.new.words back e c.write-word-in.ensures.after;
+      after = value_after u b ws v w i c.write_word_in.result c.write_word_in.new.words back e c.write_word_in.ensures.after;
       stays = refl;
-      words = c.write-word-in.ensures.after ∙ ap (λ (m : ℕ). put_word c.write-word-in.result (3 * i + 2) m ws) c.pack-word.ensures.word;
+      words = c.write_word_in.ensures.after ∙ ap (λ (m : ℕ). put_word c.write_word_in.result (3 * i + 2) m ws) c.pack-word.ensures.word;
     }
