@@ -123,7 +123,7 @@ impl Store {
         process: usize,
         item: usize,
     ) -> Result<(), Refusal>
-        ensures { refused_with result ≡ item_refusal (state (cells bank.now) self.now table.now.entries.now) process item }
+        ensures { refused_with result ≡ item_refusal (state (B.cells bank.now) self.now table.now.entries.now) process item }
     {
         self.check_operation(table, process)?;
         if item >= bank.items() || item >= MOST_ITEMS {
@@ -140,7 +140,7 @@ impl Store {
         processes: usize,
         life: u64,
     ) -> Result<(), Refusal>
-        ensures { refused_with result ≡ first_ground (set_up_grounds (state (cells bank.now) self.now table.now.entries.now) processes life) }
+        ensures { refused_with result ≡ first_ground (set_up_grounds (state (B.cells bank.now) self.now table.now.entries.now) processes life) }
     {
         let items = bank.items();
         if items < 1
