@@ -32,7 +32,8 @@ fn report(out: &mut String, line: usize, res: Result<Answer<u64>, Fault>) -> fmt
     ensures { OnOk result (string_bytes out.new ≡ string_bytes out.old ++ line_text line (line_told res)) }
 {
     let report = Report { line, result: res };
-    writeln!(out, "{report}")
+    writeln!(out, "{report}")?;
+    Ok(())
 }
 
 // The part of a script that is played.
