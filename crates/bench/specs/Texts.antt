@@ -1,6 +1,6 @@
 -- What is printed: for each line its number and what it told, by single spaces, and a line feed.
 -- The values are words of settings: a count is printed as its number, anything else as off.
-use Rattle.std.specs.Prelude.{ℕ, List, [], ◌∷◌, ◌++◌, Some, None, codes, decimal}
+use Rattle.std.specs.Prelude.{ℕ, List, ◌++◌, Some, None, codes, decimal}
 use Rattle.kinds.specs.Settings.{setting_of}
 use Rattle.kinds.specs.declared.setting.Setting.{Setting}
 use Rattle.kinds.specs.declared.setting.Setting.TheVariants.{Off, Speed, Tension, Count}

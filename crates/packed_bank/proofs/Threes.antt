@@ -1,5 +1,5 @@
 -- Words read as records, three words an item: what a read finds, and what one word anew changes.
-use Rattle.std.proofs.Common.{◌≡◌, ℕ, ◌+◌, ◌*◌, ◌/◌, ◌%◌, ◌<◌, ◌≤◌, Bool, true, false, cond, ◌&&◌, eqb, ltb, leb, ◌≢◌, ◌⊎◌, List, map, length, get_or, set, sym, refl, ap, ◌∙◌, inl, inr, arith, length-set}
+use Rattle.std.proofs.Common.{◌≡◌, ℕ, ◌+◌, ◌*◌, ◌/◌, ◌%◌, ◌<◌, ◌≤◌, Bool, true, false, cond, ◌&&◌, eqb, ltb, leb, ◌≢◌, ◌⊎◌, List, length, get_or, set, sym, refl, ap, ◌∙◌, inl, inr, arith, length-set}
 use Rattle.std.proofs.lemmas.List.FromFn.{length-map-range_with_len, get_or-map-range_with_len}
 use Rattle.std.proofs.lemmas.List.{get_or-set_same, get_or-set_other, get_or_past, ext_get_or}
 use Rattle.std.proofs.lemmas.Bool.{lt-ltb, le-ltb, ltb-true, and_parts, leb-true, cases_eq, cases_lt}
@@ -7,7 +7,7 @@ use Rattle.bank.specs.Cells.{absent, cell_at, has, change, storable, storable_co
 use Rattle.bank.specs.Limits.{most_items, most_processes, most_sequence}
 use Rattle.bank.specs.declared.lock.Lock.{Lock}
 use Rattle.bank.specs.declared.record.Record.{Record}
-use Rattle.kinds.specs.Fields.{field, from_bit}
+use Rattle.kinds.specs.Fields.{field}
 use Rattle.packed_bank.specs.Words.{item_count, has_words, lock_of, lock_word, count_of, count_word, lock_in, count_in, put_word, record_in, cells_in}
 
 -- a lock or a count that is storable comes back from its word

@@ -2,7 +2,7 @@
 use Rattle.std.specs.Prelude.{ℕ, ◌+◌, ◌-◌, Bool, true, false, cond, ◌||◌, List, Some, None, Option, ◌==◌, nat_lt, slice_index_or}
 use Rattle.bank.specs.declared.lock.Lock.{Lock}
 use Rattle.bank.specs.declared.record.Record.{Record}
-use Rattle.table.specs.Tasks.{Task, task, in_writes, write_slot, next_item, sequence_or}
+use Rattle.table.specs.Tasks.{Task, write_slot, next_item, sequence_or}
 use Rattle.table.specs.declared.entry.Entry.{Entry}
 use Rattle.table.specs.declared.entry.Part.TheVariants.{Reads, Writes}
 use Rattle.rows.specs.Places.{asked, lock_to, abort_to, count_from, compared, seen_to, released}

@@ -1,5 +1,5 @@
 -- What a place asks of the bank, and where a process goes after its sets are counted out, an item is compared, or a lock given up.
-use Rattle.std.specs.Prelude.{ℕ, ◌+◌, ◌-◌, Bool, true, false, cond, List, map, Some, None, Option, ◌==◌, nat_lt}
+use Rattle.std.specs.Prelude.{ℕ, ◌+◌, ◌-◌, Bool, true, false, cond, map, Some, None, Option, ◌==◌, nat_lt}
 use Rattle.bank.specs.declared.lock.Lock.{Lock}
 use Rattle.table.specs.Sets.{item_of}
 use Rattle.table.specs.Tasks.{Task, in_reads, next_item, unlock_sequence}

@@ -1,5 +1,5 @@
 -- The walk through a line finds the calls of the grammar.
-use Rattle.std.proofs.Common.{◌≡◌, ℕ, Bool, true, false, cond, List, [], ◌∷◌, length, Some, None, Option, sym, refl, ap, ◌∙◌, arith, eqb-true}
+use Rattle.std.proofs.Common.{◌≡◌, ℕ, Bool, true, false, cond, List, [], ◌∷◌, length, Some, None, Option, refl, ap, ◌∙◌, arith, eqb-true}
 use Rattle.std.specs.List.{prefix_len}
 use Rattle.store.specs.declared.calling.Call.{Call}
 use Rattle.script.specs.Grammar.{is, is_digit, onto, words_of, numbers_of, with_first, and_then, Form, no_call, whole, number_then, form_of, filled, call_in, call_of}

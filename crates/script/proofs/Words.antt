@@ -4,7 +4,7 @@ use Rattle.std.specs.Str.Parse.{digits_value}
 use Rattle.std.specs.List.{prefix_len}
 use Rattle.std.proofs.lemmas.List.Sums.{prefix_len-le-length}
 use Rattle.std.proofs.lemmas.Bool.Decides.{nat_tests}
-use Rattle.script.specs.Grammar.{is, is_digit, is_width, all_digits, onto, words_of, number_of, numbers_of, with_first, and_then}
+use Rattle.script.specs.Grammar.{is, is_digit, is_width, all_digits, onto, words_of, numbers_of, with_first, and_then}
 use Rattle.script.specs.Walk.{digits_first}
 
 -- the numbers behind a letter or a number: none, or a space and then the words

@@ -1,8 +1,8 @@
 -- The calls: on which grounds each is refused, in order, and what an accepted one does.
-use Rattle.std.specs.Prelude.{ℕ, suc, ◌+◌, ◌-◌, ◌*◌, Bool, true, false, cond, not, ◌&&◌, ◌||◌, List, [], ◌∷◌, map, length, replicate, Some, None, Option, ◌==◌, nat_le, nat_lt}
+use Rattle.std.specs.Prelude.{ℕ, ◌+◌, ◌-◌, ◌*◌, Bool, true, false, cond, not, ◌&&◌, ◌||◌, List, [], ◌∷◌, map, length, replicate, Some, None, Option, ◌==◌, nat_le, nat_lt}
 use Rattle.bank.specs.Limits.{most_items, most_processes, most_sequence, set_size}
 use Rattle.bank.specs.declared.record.Record.{Record}
-use Rattle.table.specs.Tasks.{Task, in_reads, in_writes, write_slot}
+use Rattle.table.specs.Tasks.{in_reads, in_writes, write_slot}
 use Rattle.table.specs.declared.entry.Entry.{Entry}
 use Rattle.table.specs.declared.entry.Part.TheVariants.{Writes}
 use Rattle.rows.specs.Places.{count_from}

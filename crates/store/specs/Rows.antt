@@ -1,5 +1,5 @@
 -- The row that a process of the store stands before, with the remembered owner's entry where the row asks for it.
-use Rattle.std.specs.Prelude.{ℕ, cond, Some, None, Option}
+use Rattle.std.specs.Prelude.{ℕ, cond, None, Option}
 use Rattle.table.specs.Tasks.{task, in_writes}
 use Rattle.table.specs.declared.entry.Entry.{Entry}
 use Rattle.rows.specs.declared.place.Place.{Place}

@@ -1,6 +1,6 @@
 -- The entries of the working table, and the sets that they make up.
 -- A process has sixteen entries: eight for its read set, then eight for its write set.
-use Rattle.std.specs.Prelude.{ℕ, suc, ◌+◌, ◌-◌, ◌*◌, Bool, true, false, cond, List, [], ◌∷◌, take, drop, Some, None, Option, ◌==◌, nat_lt, slice_index_or}
+use Rattle.std.specs.Prelude.{ℕ, suc, ◌+◌, ◌-◌, ◌*◌, cond, List, [], ◌∷◌, take, drop, Some, None, Option, ◌==◌, nat_lt, slice_index_or}
 use Rattle.bank.specs.Limits.{set_size}
 use Rattle.table.specs.declared.entry.Entry.{Entry}
 use Rattle.table.specs.declared.entry.Part.{Part}

@@ -1,8 +1,8 @@
 -- Copying value after value copies them all.
-use Rattle.std.proofs.Common.{◌≡◌, ℕ, zero, suc, ◌+◌, ◌<◌, ◌≤◌, Bool, true, false, cond, ◌⊎◌, List, [], ◌∷◌, length, get_or, take, set, sym, refl, ap, ◌∙◌, inl, inr, add-one, arith}
+use Rattle.std.proofs.Common.{◌≡◌, ℕ, zero, suc, ◌+◌, ◌<◌, ◌≤◌, Bool, ◌⊎◌, List, [], ◌∷◌, length, take, set, sym, refl, ap, ◌∙◌, inl, inr, add-one, arith}
 use Rattle.std.proofs.lemmas.List.{set_past, take_all}
 use Rattle.std.proofs.lemmas.Bool.{lt-ltb, le-ltb, cases_lt}
-use Rattle.bank.specs.Cells.{absent, cell_at, has, change, with_value}
+use Rattle.bank.specs.Cells.{cell_at, has, change, with_value}
 use Rattle.bank.specs.declared.record.Record.{Record}
 use Rattle.upkeep.specs.Upkeep.{copied}
 

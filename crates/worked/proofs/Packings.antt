@@ -1,5 +1,5 @@
 -- The rules of a setting's word in the large.
-use Rattle.std.proofs.Common.{◌≡◌, ℕ, zero, suc, ◌+◌, ◌^◌, ◌<◌, Bool, true, false, sym, refl, ap, ◌∙◌, arith}
+use Rattle.std.proofs.Common.{◌≡◌, ℕ, zero, suc, ◌+◌, ◌^◌, ◌<◌, true, false, sym, refl, ap, ◌∙◌, arith}
 use lib.Ieee.{Float, nan, inf, fin, binary32, is_nan, nan_bits, of_bits}
 use lib.Ieee.Bits.{nan_bits_is}
 use Rattle.std.proofs.lemmas.Bool.{both_ways}
@@ -7,7 +7,7 @@ use Rattle.kinds.specs.SettingsLemmas.{low_lt}
 use Rattle.kinds.specs.Fields.{field, from_bit}
 use Rattle.kinds.specs.Settings.{setting_word, setting_of, setting_by, setting_case, setting_low, IsHeldSetting}
 use Rattle.kinds.specs.declared.setting.Setting.{Setting}
-use Rattle.kinds.specs.declared.setting.Setting.TheVariants.{Off, Speed, Tension, Count}
+use Rattle.kinds.specs.declared.setting.Setting.TheVariants.{Off, Speed}
 
 nan_only : (v : Float) → is_nan v ≡ true → v ≡ nan
 unfolding is_nan
