@@ -1,5 +1,5 @@
 -- What the calls of tickets tell, in the words of the store, and whose tickets they hand out.
-use Rattle.std.specs.Prelude.{◌≡◌, ℕ, Some, None, Ok, Err, Option, Result}
+use Rattle.std.specs.Prelude.{◌≡◌, ℕ, ◌<◌, Some, None, Ok, Err, Option, Result}
 use Rattle.process.specs.Tells.{Told, going, refused}
 use Rattle.store.specs.Tells.{refusal_number}
 use Rattle.store.specs.declared.answer.Ending.{Ending}
@@ -21,9 +21,9 @@ module _ {V : Type 0} where
   closing_told (Ok t) = going
   closing_told (Err e) = refused (refusal_number e.refusal)
 
--- the ticket, if there is one, is the process's
+-- the ticket, if there is one, is the process's, and not that of no process
 abbrev pub Begun : Result OpenTicket Refusal → ℕ → Type 0
-Begun (Ok t) p = t.process ≡ p
+Begun (Ok t) p = (t.process ≡ p) × (0 < p)
 Begun (Err r) p = Unit {0}
 
 -- whose the ticket is, the closing one or the open one that was handed back

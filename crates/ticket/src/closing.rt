@@ -12,9 +12,9 @@ pub struct ClosingTicket {
 }
 
 impl Drop for ClosingTicket {
-    // Nothing meets this, so a closing ticket that is let go is refused: step and finish instead.
+    // Only the ticket of no process may be let go, and no begin hands one out: step and finish instead.
     fn drop(self)
-        requires { ⊥ }
+        requires { self.process ≡ 0 }
     {
         let ClosingTicket { process: _ } = self;
     }
@@ -48,7 +48,8 @@ impl ClosingTicket {
 impl Ticket for ClosingTicket {
     ghost holder = { λ t. t.process };
 
-    ghost Opened = { λ _. ⊥ };
+    // only the ticket of no process, which the store refuses
+    ghost Opened = { λ t. t.process ≡ 0 };
 
     fn process(&self) -> usize {
         self.process

@@ -18,9 +18,9 @@ pub struct OpenTicket {
 }
 
 impl Drop for OpenTicket {
-    // Nothing meets this, so an open ticket that is let go is refused: abort, step and finish instead.
+    // Only the ticket of no process may be let go, and no begin hands one out: abort, step and finish instead.
     fn drop(self)
-        requires { ⊥ }
+        requires { self.process ≡ 0 }
     {
         let OpenTicket { process: _ } = self;
     }
