@@ -13,7 +13,7 @@ setting_case (Speed x) = 1
 setting_case (Tension x) = 2
 setting_case (Count n) = 3
 
--- toBits gives 0x7FC00000 for what is not a number, and ofBits takes every such pattern to it
+-- to_bits gives 0x7FC00000 for what is not a number, and from_bits takes every such pattern to it
 abbrev pub setting_low : Setting → ℕ
 setting_low Off = 0
 setting_low (Speed x) = to_bits binary32 x

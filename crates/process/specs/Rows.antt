@@ -51,7 +51,7 @@ module _ {V : Type 0} (q : Process) where
   wait pl = record { tells = waiting; process = placed q pl; note = keep }
 
   abbrev pub ends : Status → Told V → Turn V
-  ends st said-last = record { tells = said-last; process = decided q st Closed; note = keep }
+  ends st said_last = record { tells = said_last; process = decided q st Closed; note = keep }
 
   -- the read ends with a value; the entry that the note leaves after the read set joins it
   abbrev pub read_ends : V → Note V → Turn V

@@ -1,5 +1,5 @@
 //! The calls on a store.
-ghost use Rattle.std.specs.Prelude.{◌≡◌, ◌-◌, ◌<◌, ◌≤◌, set, replicate, slice_index_or, slice_set};
+ghost use Rattle.std.specs.Prelude.{◌≡◌, ◌-◌, ◌<◌, ◌≤◌, replicate, slice_index_or, slice_set};
 ghost use Rattle.bank.specs.Limits.{most_processes};
 ghost use Rattle.table.specs.Tasks.{in_reads, in_writes};
 ghost use Rattle.store.specs.Calls.{read_by, write_by, reached, begin as begin_def, read as read_def, write as write_def, try_commit as try_commit_def, abort as abort_def, step as step_def, set_up as set_up_def};

@@ -1,5 +1,5 @@
 //! What a set, a run of entries, holds.
-ghost use Rattle.std.specs.Prelude.{◌≡◌, ◌≤◌, min, map, length, take, set};
+ghost use Rattle.std.specs.Prelude.{◌≡◌, ◌≤◌, min, map, length, take, slice_set};
 ghost use Rattle.bank.specs.Limits.{set_size};
 ghost use Rattle.table.specs.Sets.{entry_at, set_of, find, slot, lower, lowest, item_of};
 
@@ -23,7 +23,7 @@ pub fn entry_in<V: Kind>(entries: &[Entry<V>], at: usize) -> Entry<V>
 
 // Puts an entry at an index; past the end nothing is done.
 pub fn put_in<V: Kind>(entries: &mut [Entry<V>], at: usize, entry: Entry<V>)
-    ensures { entries.new ≡ set entries.old at entry }
+    ensures { entries.new ≡ slice_set entries.old at entry }
 {
     if at < entries.len() {
         entries[at] = entry;

@@ -1,5 +1,5 @@
 //! The table as the store uses it.
-ghost use Rattle.std.specs.Prelude.{◌≡◌, ◌+◌, ◌≤◌, map, length, take, set, slice_set};
+ghost use Rattle.std.specs.Prelude.{◌≡◌, ◌+◌, ◌≤◌, map, length, take, slice_set};
 ghost use Rattle.bank.specs.Limits.{set_size};
 ghost use Rattle.table.specs.Sets.{entry_at, start, item_of};
 ghost use Rattle.table.specs.Tasks.{task, in_reads, in_writes, write_slot, next_item, unlock_sequence};

@@ -1,5 +1,5 @@
 -- What a task's whole transaction leaves: of the state, and to the task.
-use Rattle.std.specs.Prelude.{◌≡◌, ℕ, zero, suc, Bool, true, false, cond, Some, None, Ok, Err, Result}
+use Rattle.std.specs.Prelude.{◌≡◌, ℕ, ◌<◌, zero, suc, Bool, true, false, cond, Some, None, Ok, Err, Result}
 use Rattle.store.specs.Calls.{begin, write, try_commit, abort, step}
 use Rattle.store.specs.Endings.{ending_of}
 use Rattle.store.specs.Model.{State, Outcome}
@@ -47,9 +47,9 @@ module _ {V : Type 0} (blank : V) where
   abbrev pub put : ℕ → ℕ → V → ℕ → State V → State V
   put p i v n s = after_begin p i v n (begin blank s p)
 
--- a ticket that is left is the process's, and the latest transaction has ended so, or not yet
+-- a ticket that is left is the process's, and not that of no process; and the latest transaction has ended so, or not yet
 abbrev pub Leaves : Left → ℕ → Store → Type 0
 Leaves (NotBegun r) p st = Unit {0}
 Leaves (Ended e) p st = ending_of st.processes st.number p ≡ Some e
-Leaves (Open e) p st = e.ticket.process ≡ p
-Leaves (Closing t) p st = (t.process ≡ p) × (ending_of st.processes st.number p ≡ None)
+Leaves (Open e) p st = (e.ticket.process ≡ p) × (0 < p)
+Leaves (Closing t) p st = (t.process ≡ p) × (0 < p) × (ending_of st.processes st.number p ≡ None)

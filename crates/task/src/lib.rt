@@ -1,7 +1,7 @@
 //! A task that runs a whole transaction, by tickets.
 #![tactic(auto)]
 
-ghost use Rattle.std.specs.Prelude.{◌≡◌};
+ghost use Rattle.std.specs.Prelude.{◌≡◌, ◌<◌};
 ghost use Rattle.store.specs.Calls.{write as write_def};
 ghost use Rattle.store.specs.Model.{state};
 ghost use Rattle.ticket.specs.Tickets.{holder_of};
@@ -56,6 +56,7 @@ fn put_open<B: Bank>(
     value: B::Value,
     steps: u32,
 ) -> Left
+    requires { 0 < ticket.process }
     ensures exact { state (B.cells bank.new) store.new table.new.entries.now ≡ after_write B.Value.blank ticket.process steps (write_def B.Value.blank (state (B.cells bank.old) store.old table.old.entries.now) ticket.process item value) }
     ensures left { Leaves result ticket.process store.new }
     ensures bank { B.places bank.new ≡ B.places bank.old }
@@ -81,6 +82,7 @@ fn close<B: Bank>(
     table: &mut Table<'_, B::Value>,
     steps: u32,
 ) -> Left
+    requires { 0 < holder_of closed }
     ensures exact { state (B.cells bank.new) store.new table.new.entries.now ≡ stepped_by B.Value.blank closed steps (state (B.cells bank.old) store.old table.old.entries.now) }
     ensures left { Leaves result (holder_of closed) store.new }
     ensures bank { B.places bank.new ≡ B.places bank.old }
