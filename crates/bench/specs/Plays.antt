@@ -1,6 +1,6 @@
 -- A script played line by line, from a state: what each line tells, and which bytes are printed.
 -- Values go in as counts and come out as words, by the kind's packing and unpacking.
-use Rattle.std.specs.Prelude.{ℕ, ◌+◌, List, [], ◌∷◌, ◌++◌, take, replicate, Some, None, Option}
+use Rattle.std.specs.Prelude.{◌≡◌, ℕ, ◌+◌, List, [], ◌∷◌, ◌++◌, take, replicate, Some, None, Option}
 use Rattle.kinds.specs.Settings.{setting_word}
 use Rattle.kinds.specs.declared.setting.Setting.TheVariants.{Count}
 use Rattle.bank.specs.Limits.{most_processes}
@@ -44,6 +44,19 @@ turn t s = record { tells = t; after = s }
 abbrev pub unused : {V : Type 0} → List (Record V) → List (Entry V) → State V
 unused cs es = record { cells = cs; memory = record { processes = replicate most_processes fresh; number = 0; life = 0; entries = es } }
 
+-- the lines of a script that are played: those of its first 65,536 bytes
+abbrev pub script_lines : List ℕ → List (List ℕ)
+script_lines input = lines_of (take 65536 input)
+
+module _ {V : Type 0} where
+  -- set up with four processes and a life of 1,000
+  abbrev pub started : List (Record V) → List (Entry V) → State V
+  started cs es = (set_up (unused cs es) 4 1000).after
+
+  -- lent records and entries hold what a state says of them
+  abbrev pub Holds : State V → List (Record V) → List (Entry V) → Type 0
+  Holds s cs es = (cs ≡ s.cells) × (es ≡ s.memory.entries)
+
 module _ {V : Type 0} (blank : V) (pack : V → ℕ) (unpack : ℕ → V) where
   -- a count goes in as the value of the word that it has as a setting
   abbrev pub made : State V → Call ℕ → Turn V
@@ -64,6 +77,23 @@ module _ {V : Type 0} (blank : V) (pack : V → ℕ) (unpack : ℕ → V) where
   printed s n [] = []
   printed s n (l ∷ ls) = line_text n (line_turn s l).tells ++ printed (line_turn s l).after (n + 1) ls
 
-  -- set-up with four processes and a life of 1,000, and then the first 65,536 bytes of a script
+  -- the state that the lines leave
+  abbrev pub lines_after : State V → List (List ℕ) → State V
+  lines_after s [] = s
+  lines_after s (l ∷ ls) = lines_after (line_turn s l).after ls
+
+  -- the first of the lines, and no others, lead from s to t
+  pub record Reaches (s : State V) (ls : List (List ℕ)) (t : State V) : Type 0 where
+    pub first : List (List ℕ)
+    pub rest : List (List ℕ)
+    pub whole : first ++ rest ≡ ls
+    pub after : t ≡ lines_after s first
+
   abbrev pub played : List (Record V) → List (Entry V) → List ℕ → List ℕ
-  played cs es input = printed (set_up (unused cs es) 4 1000).after 1 (lines_of (take 65536 input))
+  played cs es input = printed (started cs es) 1 (script_lines input)
+
+  -- what the first of a script's lines, and no others, leave in records and entries
+  pub record HoldsSome (cs : List (Record V)) (es : List (Entry V)) (input : List ℕ) (cs' : List (Record V)) (es' : List (Entry V)) : Type 0 where
+    pub state : State V
+    pub reaches : Reaches (started cs es) (script_lines input) state
+    pub holds : Holds state cs' es'
