@@ -1,5 +1,5 @@
 //! What a set, a run of entries, holds.
-ghost use Rattle.std.specs.Prelude.{◌≡◌, ◌≤◌, min, map, length, take, slice_set};
+ghost use Rattle.std.specs.Prelude.{◌≡◌, ◌≤◌, ◌-◌, min, map, length, take, drop, replicate, slice_set};
 ghost use Rattle.bank.specs.Limits.{set_size};
 ghost use Rattle.table.specs.Sets.{entry_at, set_of, find, slot, lower, lowest, item_of};
 
@@ -95,6 +95,7 @@ pub fn lowest_in<V: Kind>(set: &[Entry<V>], from: usize, best: Option<u8>) -> Op
 pub fn items_in<V: Kind>(set: &[Entry<V>]) -> (usize, [usize; SET_SIZE])
     ensures count { result.0 ≤ set_size }
     ensures items { take result.0 result.1 ≡ take set_size (map item_of set.now) }
+    ensures zeros { drop result.0 result.1 ≡ replicate (set_size - result.0) 0 }
 {
     let mut items = [0; SET_SIZE];
     let count = set.len().min(SET_SIZE);

@@ -1,5 +1,5 @@
 //! The table as the store uses it.
-ghost use Rattle.std.specs.Prelude.{◌≡◌, ◌+◌, ◌≤◌, map, length, take, slice_set};
+ghost use Rattle.std.specs.Prelude.{◌≡◌, ◌+◌, ◌-◌, ◌≤◌, map, length, take, drop, replicate, slice_set};
 ghost use Rattle.bank.specs.Limits.{set_size};
 ghost use Rattle.table.specs.Sets.{entry_at, start, item_of};
 ghost use Rattle.table.specs.Tasks.{task, in_reads, in_writes, write_slot, next_item, unlock_sequence};
@@ -108,6 +108,7 @@ impl<'a, V: Kind> Table<'a, V> {
     pub fn write_items(&self, process: u8, sizes: Sizes) -> (usize, [usize; SET_SIZE])
         ensures count { result.0 ≤ set_size }
         ensures items { take result.0 result.1 ≡ take set_size (map item_of (task V.blank self.now.entries.now process sizes).writes) }
+        ensures zeros { drop result.0 result.1 ≡ replicate (set_size - result.0) 0 }
     {
         items_in(self.writes(process, sizes))
     }

@@ -4,11 +4,23 @@ use Rattle.store.specs.Calls.{begin, write, try_commit, abort, step}
 use Rattle.store.specs.Endings.{ending_of}
 use Rattle.store.specs.Model.{State, Outcome}
 use Rattle.process.specs.Tells.{Told, done, going, waiting, value, committed, aborted, refused}
+use Rattle.store.specs.Tells.{refusal_number}
 use Rattle.store.specs.declared.stored.Store.{Store}
 use Rattle.ticket.specs.declared.closing.ClosingTicket.{ClosingTicket}
 use Rattle.ticket.specs.declared.open.Refused.{Refused}
 use Rattle.task.specs.declared.Left.{Left}
 use Rattle.task.specs.declared.Left.TheVariants.{NotBegun, Ended, Open, Closing}
+
+-- which call of the transaction was refused, if one was that the task cannot go on without, and by which number
+pub data Stop : Type 0 where
+  at_begin : ℕ → Stop
+  at_close : ℕ → Stop
+  nowhere : Stop
+
+-- a ticket that was handed back stops the task
+abbrev pub stop_closed : Result ClosingTicket Refused → Stop
+stop_closed (Ok t) = nowhere
+stop_closed (Err e) = at_close (refusal_number e.refusal)
 
 module _ {V : Type 0} where
   abbrev pub is_refused : Told V → Bool
@@ -19,6 +31,26 @@ module _ {V : Type 0} where
   is_refused committed = false
   is_refused (aborted cause) = false
   is_refused (refused n) = true
+
+  -- a begin that is refused stops the task there
+  abbrev pub stop_begin : Told V → Stop → Stop
+  stop_begin done later = later
+  stop_begin going later = later
+  stop_begin waiting later = later
+  stop_begin (value v) later = later
+  stop_begin committed later = later
+  stop_begin (aborted cause) later = later
+  stop_begin (refused n) later = at_begin n
+
+  -- and so does a try-commit or an abort
+  abbrev pub stop_close : Told V → Stop
+  stop_close done = nowhere
+  stop_close going = nowhere
+  stop_close waiting = nowhere
+  stop_close (value v) = nowhere
+  stop_close committed = nowhere
+  stop_close (aborted cause) = nowhere
+  stop_close (refused n) = at_close n
 
 module _ {V : Type 0} (blank : V) where
   -- so many steps of the process
@@ -39,6 +71,10 @@ module _ {V : Type 0} (blank : V) where
   abbrev pub after_write : ℕ → ℕ → Outcome V → State V
   after_write p n o = cond (is_refused o.tells) (after_close p n (abort blank o.after p)) (after_close p n (try_commit blank o.after p))
 
+  -- where the task stops after a write
+  abbrev pub stop_write : ℕ → Outcome V → Stop
+  stop_write p o = cond (is_refused o.tells) (stop_close (abort blank o.after p).tells) (stop_close (try_commit blank o.after p).tells)
+
   -- after a begin
   abbrev pub after_begin : ℕ → ℕ → V → ℕ → Outcome V → State V
   after_begin p i v n o = cond (is_refused o.tells) o.after (after_write p n (write blank o.after p i v))
@@ -46,6 +82,17 @@ module _ {V : Type 0} (blank : V) where
   -- a transaction that writes v to item i, with n steps for its commit
   abbrev pub put : ℕ → ℕ → V → ℕ → State V → State V
   put p i v n s = after_begin p i v n (begin blank s p)
+
+  -- and where it stops
+  abbrev pub stop_put : ℕ → ℕ → V → State V → Stop
+  stop_put p i v s = stop_begin (begin blank s p).tells (stop_write p (write blank (begin blank s p).after p i v))
+
+-- the refusal that is left to the task
+abbrev pub stop_left : Left → Stop
+stop_left (NotBegun r) = at_begin (refusal_number r)
+stop_left (Ended e) = nowhere
+stop_left (Open e) = at_close (refusal_number e.refusal)
+stop_left (Closing t) = nowhere
 
 -- a ticket that is left is the process's, and not that of no process; and the latest transaction has ended so, or not yet
 abbrev pub Leaves : Left → ℕ → Store → Type 0

@@ -5,7 +5,7 @@ ghost use Rattle.std.specs.Prelude.{◌≡◌, ◌<◌};
 ghost use Rattle.store.specs.Calls.{write as write_def};
 ghost use Rattle.store.specs.Model.{state};
 ghost use Rattle.ticket.specs.Tickets.{holder_of};
-ghost use Rattle.task.specs.Whole.{stepped, stepped_by, after_write, put as put_def, Leaves};
+ghost use Rattle.task.specs.Whole.{stepped, stepped_by, after_write, put as put_def, stop_left, stop_closed, stop_write, stop_put, Leaves};
 
 use bank::Bank;
 use store::{Ending, Refusal, Store};
@@ -36,6 +36,7 @@ pub fn put<B: Bank>(
     steps: u32,
 ) -> Left
     ensures exact { state (B.cells bank.new) store.new table.new.entries.now ≡ put_def B.Value.blank process item value steps (state (B.cells bank.old) store.old table.old.entries.now) }
+    ensures stop { stop_left result ≡ stop_put B.Value.blank process item value (state (B.cells bank.old) store.old table.old.entries.now) }
     ensures left { Leaves result process store.new }
     ensures bank { B.places bank.new ≡ B.places bank.old }
     ensures table { table.new.entries.ghost_name ≡ table.old.entries.ghost_name }
@@ -58,6 +59,7 @@ fn put_open<B: Bank>(
 ) -> Left
     requires { 0 < ticket.process }
     ensures exact { state (B.cells bank.new) store.new table.new.entries.now ≡ after_write B.Value.blank ticket.process steps (write_def B.Value.blank (state (B.cells bank.old) store.old table.old.entries.now) ticket.process item value) }
+    ensures stop { stop_left result ≡ stop_write B.Value.blank ticket.process (write_def B.Value.blank (state (B.cells bank.old) store.old table.old.entries.now) ticket.process item value) }
     ensures left { Leaves result ticket.process store.new }
     ensures bank { B.places bank.new ≡ B.places bank.old }
     ensures table { table.new.entries.ghost_name ≡ table.old.entries.ghost_name }
@@ -84,6 +86,7 @@ fn close<B: Bank>(
 ) -> Left
     requires { 0 < holder_of closed }
     ensures exact { state (B.cells bank.new) store.new table.new.entries.now ≡ stepped_by B.Value.blank closed steps (state (B.cells bank.old) store.old table.old.entries.now) }
+    ensures stop { stop_left result ≡ stop_closed closed }
     ensures left { Leaves result (holder_of closed) store.new }
     ensures bank { B.places bank.new ≡ B.places bank.old }
     ensures table { table.new.entries.ghost_name ≡ table.old.entries.ghost_name }
