@@ -1,5 +1,5 @@
 #!/usr/bin/env python3
-"""check.py PLAYER N: see check.sh.  The script at fault is left in /tmp/model/differs.script."""
+"""check.py PLAYER N: see check.sh.  The script at fault is left beside this file, in differs.script."""
 import glob
 import os
 import subprocess

@@ -89,6 +89,7 @@ module _ {V : Type 0} (blank : V) (pack : V → ℕ) (unpack : ℕ → V) where
     pub whole : first ++ rest ≡ ls
     pub after : t ≡ lines_after s first
 
+  -- the bytes that a script prints, from set-up on
   abbrev pub played : List (Record V) → List (Entry V) → List ℕ → List ℕ
   played cs es input = printed (started cs es) 1 (script_lines input)
 

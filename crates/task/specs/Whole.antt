@@ -1,5 +1,5 @@
 -- What a task's whole transaction leaves: of the state, and to the task.
-use Rattle.std.specs.Prelude.{◌≡◌, ℕ, ◌<◌, zero, suc, Bool, true, false, cond, Some, None, Ok, Err, Result}
+use Rattle.std.specs.Prelude.{◌≡◌, ℕ, ◌<◌, zero, suc, Bool, true, false, cond, Some, None, Ok, Err, Option, Result}
 use Rattle.store.specs.Calls.{begin, write, try_commit, abort, step}
 use Rattle.store.specs.Endings.{ending_of}
 use Rattle.store.specs.Model.{State, Outcome}
@@ -17,7 +17,17 @@ pub data Stop : Type 0 where
   at_close : ℕ → Stop
   nowhere : Stop
 
--- a ticket that was handed back stops the task
+-- a begin that is refused stops the task there
+abbrev pub stop_begin : Option ℕ → Stop → Stop
+stop_begin None later = later
+stop_begin (Some n) later = at_begin n
+
+-- and so does a try-commit or an abort
+abbrev pub stop_close : Option ℕ → Stop
+stop_close None = nowhere
+stop_close (Some n) = at_close n
+
+-- which hands the ticket back
 abbrev pub stop_closed : Result ClosingTicket Refused → Stop
 stop_closed (Ok t) = nowhere
 stop_closed (Err e) = at_close (refusal_number e.refusal)
@@ -32,25 +42,15 @@ module _ {V : Type 0} where
   is_refused (aborted cause) = false
   is_refused (refused n) = true
 
-  -- a begin that is refused stops the task there
-  abbrev pub stop_begin : Told V → Stop → Stop
-  stop_begin done later = later
-  stop_begin going later = later
-  stop_begin waiting later = later
-  stop_begin (value v) later = later
-  stop_begin committed later = later
-  stop_begin (aborted cause) later = later
-  stop_begin (refused n) later = at_begin n
-
-  -- and so does a try-commit or an abort
-  abbrev pub stop_close : Told V → Stop
-  stop_close done = nowhere
-  stop_close going = nowhere
-  stop_close waiting = nowhere
-  stop_close (value v) = nowhere
-  stop_close committed = nowhere
-  stop_close (aborted cause) = nowhere
-  stop_close (refused n) = at_close n
+  -- the number of the refusal that a call told, if it told one
+  abbrev pub refused_by : Told V → Option ℕ
+  refused_by done = None
+  refused_by going = None
+  refused_by waiting = None
+  refused_by (value v) = None
+  refused_by committed = None
+  refused_by (aborted cause) = None
+  refused_by (refused n) = Some n
 
 module _ {V : Type 0} (blank : V) where
   -- so many steps of the process
@@ -73,7 +73,7 @@ module _ {V : Type 0} (blank : V) where
 
   -- where the task stops after a write
   abbrev pub stop_write : ℕ → Outcome V → Stop
-  stop_write p o = cond (is_refused o.tells) (stop_close (abort blank o.after p).tells) (stop_close (try_commit blank o.after p).tells)
+  stop_write p o = stop_close (cond (is_refused o.tells) (refused_by (abort blank o.after p).tells) (refused_by (try_commit blank o.after p).tells))
 
   -- after a begin
   abbrev pub after_begin : ℕ → ℕ → V → ℕ → Outcome V → State V
@@ -85,7 +85,7 @@ module _ {V : Type 0} (blank : V) where
 
   -- and where it stops
   abbrev pub stop_put : ℕ → ℕ → V → State V → Stop
-  stop_put p i v s = stop_begin (begin blank s p).tells (stop_write p (write blank (begin blank s p).after p i v))
+  stop_put p i v s = stop_begin (refused_by (begin blank s p).tells) (stop_write p (write blank (begin blank s p).after p i v))
 
 -- the refusal that is left to the task
 abbrev pub stop_left : Left → Stop
