@@ -1,6 +1,7 @@
 -- What a bank keeps for each item, and what its functions answer and change.
 -- Items are numbered from 0; `blank` is the blank of the bank's kind.
-use Rattle.std.specs.Prelude.{ℕ, Bool, true, cond, ◌&&◌, List, [], ◌∷◌, length, ◌==◌, nat_le, nat_lt, slice_index_or, slice_set}
+use Rattle.std.specs.Prelude.{ℕ, Bool, cond, ◌&&◌, List, length, ◌==◌, nat_le, nat_lt, slice_index_or, slice_set}
+use Rattle.std.specs.List.{list_all}
 use Rattle.bank.specs.Limits.{most_processes, most_sequence}
 use Rattle.bank.specs.declared.lock.Lock.{Lock}
 use Rattle.bank.specs.declared.record.Record.{Record}
@@ -43,8 +44,7 @@ module _ {V : Type 0} where
 
   -- each of the items has a count of 0
   abbrev pub all_zero : V → List (Record V) → List ℕ → Bool
-  all_zero blank cs [] = true
-  all_zero blank cs (i ∷ is) = (cell_at blank cs i).count == 0 && all_zero blank cs is
+  all_zero blank cs is = list_all (λ i. (cell_at blank cs i).count == 0) is
 
   -- one cell of a record anew
   abbrev pub with_lock : Lock → Record V → Record V

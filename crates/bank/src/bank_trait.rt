@@ -63,23 +63,9 @@ pub trait Bank {
     fn all_zero(&self, items: &[usize]) -> bool
         ensures { result ≡ all_zero Self.Value.Kind.blank (cells self.now) (take set_size items.now) }
     {
-        let asked = first(items);
-        for item in asked {
-            if self.read_count(*item) != 0 {
-                return false;
-            }
-        }
-        true
-    }
-}
-
-// The first 8 of the items given.
-fn first(items: &[usize]) -> &[usize]
-    ensures { result.now ≡ take set_size items.now }
-{
-    if items.len() > SET_SIZE {
-        &items[0..SET_SIZE]
-    } else {
         items
+            .iter()
+            .take(SET_SIZE)
+            .all(|item| self.read_count(*item) == 0)
     }
 }

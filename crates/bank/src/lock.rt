@@ -5,7 +5,7 @@ ghost use Rattle.bank.specs.Cells.{free, storable, same_lock};
 use crate::limits::{MOST_PROCESSES, MOST_SEQUENCE};
 
 /// An owner, 0 for none, and a sequence number, always read and written together.
-#[derive(Clone, Copy)]
+#[derive(Clone, Copy, Debug, PartialEq, Eq)]
 pub struct Lock {
     pub owner: u8,
     pub sequence: u64,
@@ -33,6 +33,6 @@ impl Lock {
     pub fn is_same(self, other: Lock) -> bool
         ensures { result ≡ same_lock self other }
     {
-        self.owner == other.owner && self.sequence == other.sequence
+        self == other
     }
 }

@@ -1,24 +1,16 @@
 //! A knot of the traverse curve.
 ghost use Rattle.std.specs.Prelude.{◌≡◌};
-ghost use Rattle.kinds.specs.Fields.{of_twos};
 ghost use Rattle.kinds.specs.Knots.{IsHeldKnot, knot_word, knot_of, zero_knot};
 ghost use Rattle.std.proofs.Common.{rules};
 
 use crate::kind::Kind;
 
 /// The guide stands at `offset` when the spindle has turned by `angle`, at `time`.
-#[derive(Clone, Copy)]
+#[derive(Clone, Copy, Debug, Default, PartialEq, Eq)]
 pub struct Knot {
     pub angle: u16,
     pub offset: i16,
     pub time: u32,
-}
-
-// The number that 16 bits mean in two's complement.
-fn signed(bits: u16) -> i16
-    ensures { result ≡ of_twos 16 bits }
-{
-    bits.cast_signed()
 }
 
 impl Kind for Knot {
@@ -40,16 +32,12 @@ impl Kind for Knot {
     fn unpack(word: u64) -> Knot {
         Knot {
             angle: (word >> 48) as u16,
-            offset: signed(((word >> 32) % (1 << 16)) as u16),
+            offset: (((word >> 32) % (1 << 16)) as u16).cast_signed(),
             time: (word % (1 << 32)) as u32,
         }
     }
 
     fn blank() -> Knot {
-        Knot {
-            angle: 0,
-            offset: 0,
-            time: 0,
-        }
+        Knot::default()
     }
 }

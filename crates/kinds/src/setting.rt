@@ -1,6 +1,6 @@
 //! A setting of the drive.
 ghost use Rattle.std.specs.Prelude.{◌≡◌};
-ghost use Rattle.kinds.specs.Settings.{IsHeldSetting, setting_word, setting_of, setting_by};
+ghost use Rattle.kinds.specs.Settings.{IsHeldSetting, setting_word, setting_of};
 ghost use Rattle.kinds.specs.declared.setting.Setting.TheVariants.{Off};
 ghost use Rattle.kinds.specs.SettingsLemmas.{setting_back};
 
@@ -8,24 +8,13 @@ use crate::kind::Kind;
 use std::num::{f32_from_bits_with_nan, f32_to_bits_with_nan};
 
 /// Off, a speed, a tension or a count. A float that is not a number is one value, whatever its bits were.
-#[derive(Clone, Copy)]
+#[derive(Clone, Copy, Debug, Default, PartialEq)]
 pub enum Setting {
+    #[default]
     Off,
     Speed(f32),
     Tension(f32),
     Count(u32),
-}
-
-// The setting of a case and its low bits; a case above 3 is off.
-fn setting_by(case: u8, low: u32) -> Setting
-    ensures { result ≡ setting_by case low }
-{
-    match case {
-        1 => Setting::Speed(f32_from_bits_with_nan(low)),
-        2 => Setting::Tension(f32_from_bits_with_nan(low)),
-        3 => Setting::Count(low),
-        _ => Setting::Off,
-    }
 }
 
 impl Kind for Setting {
@@ -49,10 +38,16 @@ impl Kind for Setting {
     }
 
     fn unpack(word: u64) -> Setting {
-        setting_by((word >> 56) as u8, (word % (1 << 32)) as u32)
+        let low = (word % (1 << 32)) as u32;
+        match (word >> 56) as u8 {
+            1 => Setting::Speed(f32_from_bits_with_nan(low)),
+            2 => Setting::Tension(f32_from_bits_with_nan(low)),
+            3 => Setting::Count(low),
+            _ => Setting::Off,
+        }
     }
 
     fn blank() -> Setting {
-        setting_by(0, 0)
+        Setting::default()
     }
 }

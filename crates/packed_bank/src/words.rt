@@ -1,10 +1,10 @@
-//! What the words of a packed bank hold, and one word of an item anew.
-ghost use Rattle.std.specs.Prelude.{◌≡◌, ◌+◌, ◌*◌, ◌&&◌, if◌then◌else◌, ◌==◌, slice_index};
-ghost use Rattle.bank.specs.Cells.{storable, storable_count, same_lock};
-ghost use Rattle.packed_bank.specs.Words.{item_count, has_words, lock_of, lock_in, count_in, lock_word, count_word, put_word};
+//! The words of a packed bank: how many items they make, and what each word of an item holds.
+ghost use Rattle.std.specs.Prelude.{◌≡◌, ◌+◌, ◌*◌, ◌<◌, IsTrue, slice_index};
+ghost use Rattle.std.specs.Bool.{then_some};
+ghost use Rattle.bank.specs.Cells.{storable};
+ghost use Rattle.packed_bank.specs.Words.{item_count, has_words, offset, lock_of, count_of, lock_word};
 
-use bank::{Lock, MOST_ITEMS, MOST_PROCESSES};
-use kinds::Kind;
+use bank::{Lock, MOST_ITEMS};
 
 // The words of one item.
 const ITEM_WORDS: usize = 3;
@@ -12,7 +12,25 @@ const ITEM_WORDS: usize = 3;
 // The most words that make a bank.
 const MOST_WORDS: usize = ITEM_WORDS * MOST_ITEMS;
 
-// How many items the words make.
+/// What each of the three words of an item holds, in their order.
+#[derive(Clone, Copy)]
+pub enum Part {
+    Lock,
+    Count,
+    Value,
+}
+
+impl Part {
+    /// Where the item's word of it stands.
+    pub fn index(self, item: usize) -> usize
+        requires { item < 64 }
+        ensures { result ≡ 3 * item + offset self }
+    {
+        ITEM_WORDS * item + self as usize
+    }
+}
+
+/// How many items the words make.
 pub fn items_in(words: &[u64]) -> usize
     ensures { result ≡ item_count words.now }
 {
@@ -23,8 +41,15 @@ pub fn items_in(words: &[u64]) -> usize
     }
 }
 
-// The lock that a word holds.
-fn lock_from(word: u64) -> Lock
+/// The word of a part of the item, if there is the item.
+pub fn word_in(words: &[u64], item: usize, part: Part) -> Option<u64>
+    ensures { result ≡ then_some (has_words words.now item) (slice_index words.now (3 * item + offset part)) }
+{
+    (item < items_in(words)).then(|| words[part.index(item)])
+}
+
+/// The lock that a word holds.
+pub fn lock_from(word: u64) -> Lock
     ensures { result ≡ lock_of word }
 {
     Lock {
@@ -33,72 +58,18 @@ fn lock_from(word: u64) -> Lock
     }
 }
 
-pub fn read_lock_in(words: &[u64], item: usize) -> Lock
-    ensures { result ≡ lock_in words.now item }
+/// The word of a lock that a bank stores.
+pub fn word_from(lock: Lock) -> u64
+    requires { IsTrue (storable lock) }
+    ensures word { result ≡ lock_word lock }
+    ensures back { lock_of result ≡ lock }
 {
-    if item < items_in(words) {
-        return lock_from(words[ITEM_WORDS * item]);
-    }
-    Lock::free()
+    ((lock.owner as u64) << 56) + lock.sequence
 }
 
-pub fn read_count_in(words: &[u64], item: usize) -> u8
-    ensures { result ≡ count_in words.now item }
+/// The count that a word holds.
+pub fn count_from(word: u64) -> u8
+    ensures { result ≡ count_of word }
 {
-    if item < items_in(words) {
-        return (words[ITEM_WORDS * item + 1] >> 56) as u8;
-    }
-    0
-}
-
-pub fn read_value_in<V: Kind>(words: &[u64], item: usize) -> V
-    ensures { result ≡ (if has_words words.now item then V.unpacking (slice_index words.now (3 * item + 2)) else V.blank) }
-{
-    if item < items_in(words) {
-        return V::unpack(words[ITEM_WORDS * item + 2]);
-    }
-    V::blank()
-}
-
-pub fn write_lock_in(words: &mut [u64], item: usize, lock: Lock) -> bool
-    ensures answer { result ≡ (has_words words.old item && storable lock) }
-    ensures after { words.new ≡ put_word result (3 * item) (lock_word lock) words.old }
-{
-    if item < items_in(words) && lock.is_storable() {
-        words[ITEM_WORDS * item] = ((lock.owner as u64) << 56) + lock.sequence;
-        return true;
-    }
-    false
-}
-
-pub fn swap_lock_in(words: &mut [u64], item: usize, expected: Lock, lock: Lock) -> bool
-    ensures answer { result ≡ (has_words words.old item && storable lock && same_lock (lock_in words.old item) expected) }
-    ensures after { words.new ≡ put_word result (3 * item) (lock_word lock) words.old }
-{
-    if read_lock_in(words, item).is_same(expected) {
-        return write_lock_in(words, item, lock);
-    }
-    false
-}
-
-pub fn swap_count_in(words: &mut [u64], item: usize, expected: u8, count: u8) -> bool
-    ensures answer { result ≡ (has_words words.old item && storable_count count && count_in words.old item == expected) }
-    ensures after { words.new ≡ put_word result (3 * item + 1) (count_word count) words.old }
-{
-    if item < items_in(words) && count <= MOST_PROCESSES && read_count_in(words, item) == expected {
-        words[ITEM_WORDS * item + 1] = (count as u64) << 56;
-        return true;
-    }
-    false
-}
-
-pub fn write_word_in(words: &mut [u64], item: usize, word: u64) -> bool
-    ensures answer { result ≡ has_words words.old item }
-    ensures after { words.new ≡ put_word result (3 * item + 2) word words.old }
-{
-    if item < items_in(words) {
-        words[ITEM_WORDS * item + 2] = word;
-        return true;
-    }
-    false
+    (word >> 56) as u8
 }

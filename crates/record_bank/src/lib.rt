@@ -1,8 +1,9 @@
 //! A bank over a lent table of records, of any kind: item i is record i.
 #![tactic(auto)]
 
-ghost use Rattle.std.specs.Prelude.{◌≡◌, [], ◌∷◌};
-ghost use Rattle.bank.specs.Cells.{cell_at, has, stores_lock, swaps_lock, swaps_count, change, with_lock, with_value, with_count};
+ghost use Rattle.std.specs.Prelude.{◌≡◌, ◌&&◌, [], ◌∷◌, slice_set, cond, IsTrue};
+ghost use Rattle.record_bank.specs.Lent.{records_of, place_of};
+ghost use Rattle.bank.specs.Cells.{cell_at, has};
 
 use bank::{Bank, Lock, MOST_PROCESSES, Record};
 use kinds::Kind;
@@ -16,108 +17,82 @@ pub struct RecordBank<'a, V: Kind> {
 impl<'a, V: Kind> RecordBank<'a, V> {
     /// The bank of these records, as they are.
     pub fn new(records: &'a mut [Record<V>]) -> RecordBank<'a, V>
-        ensures cells { result.records.now ≡ records.old }
-        ensures places { result.records.ghost_name ≡ records.entry.ghost_name }
+        ensures cells { records_of result ≡ records.old }
+        ensures places { place_of result ≡ records.entry.ghost_name }
     {
         RecordBank { records }
     }
-}
 
-fn record_at<V: Kind>(records: &[Record<V>], item: usize) -> Record<V>
-    ensures { result ≡ cell_at V.blank records.now item }
-{
-    if item < records.len() {
-        return records[item];
+    // The item's record; for an item that there is not the blank, free and with no readers.
+    fn record(&self, item: usize) -> Record<V>
+        ensures { result ≡ cell_at V.blank (records_of self.now) item }
+    {
+        self.records
+            .get(item)
+            .copied()
+            .unwrap_or(Record::new(V::blank()))
     }
-    Record {
-        value: V::blank(),
-        lock: Lock::free(),
-        count: 0,
-    }
-}
 
-fn write_lock_in<V: Kind>(records: &mut [Record<V>], item: usize, lock: Lock) -> bool
-    ensures answer { result ≡ stores_lock records.old item lock }
-    ensures after { records.new ≡ change result (with_lock lock) V.blank records.old item }
-{
-    if item >= records.len() || !lock.is_storable() {
-        return false;
+    // Makes of the item's record what `change` says. Answers whether there is the item and it may; else nothing changes.
+    fn update<F: FnOnce(Record<V>) -> Record<V>>(
+        &mut self,
+        item: usize,
+        may: bool,
+        change: F,
+    ) -> bool
+        requires { F.IsAlwaysCallable change }
+        ensures answer { result ≡ (has (records_of self.old) item && may) }
+        ensures by { IsTrue result → F.post change (cell_at V.blank (records_of self.old) item) (cell_at V.blank (records_of self.new) item) }
+        ensures after { records_of self.new ≡ cond result (slice_set (records_of self.old) item (cell_at V.blank (records_of self.new) item)) (records_of self.old) }
+        ensures stays { place_of self.new ≡ place_of self.old }
+    {
+        let done = may && item < self.items();
+        if done {
+            // by index: after `get_mut` a proof knows no element of the slice (tried; it did not close)
+            self.records[item] = change(self.records[item]);
+        }
+        done
     }
-    records[item].lock = lock;
-    true
-}
-
-fn write_value_in<V: Kind>(records: &mut [Record<V>], item: usize, value: V) -> bool
-    ensures answer { result ≡ has records.old item }
-    ensures after { records.new ≡ change result (with_value value) V.blank records.old item }
-{
-    if item >= records.len() {
-        return false;
-    }
-    records[item].value = value;
-    true
-}
-
-fn swap_lock_in<V: Kind>(records: &mut [Record<V>], item: usize, expected: Lock, lock: Lock) -> bool
-    ensures answer { result ≡ swaps_lock V.blank records.old item expected lock }
-    ensures after { records.new ≡ change result (with_lock lock) V.blank records.old item }
-{
-    let old = record_at(records, item);
-    if item >= records.len() || !lock.is_storable() || !old.lock.is_same(expected) {
-        return false;
-    }
-    records[item] = Record { lock, ..old };
-    true
-}
-
-fn swap_count_in<V: Kind>(records: &mut [Record<V>], item: usize, expected: u8, count: u8) -> bool
-    ensures answer { result ≡ swaps_count V.blank records.old item expected count }
-    ensures after { records.new ≡ change result (with_count count) V.blank records.old item }
-{
-    let old = record_at(records, item);
-    if item >= records.len() || count > MOST_PROCESSES || old.count != expected {
-        return false;
-    }
-    records[item] = Record { count, ..old };
-    true
 }
 
 impl<V: Kind> Bank for RecordBank<'_, V> {
     type Value = V;
 
-    ghost cells = { λ b. b.records.now };
+    ghost cells = { records_of };
 
-    ghost places = { λ b. b.records.ghost_name ∷ [] };
+    ghost places = { λ b. place_of b ∷ [] };
 
     fn items(&self) -> usize {
         self.records.len()
     }
 
     fn read_lock(&self, item: usize) -> Lock {
-        record_at(self.records, item).lock
+        self.record(item).lock
     }
 
     fn read_value(&self, item: usize) -> V {
-        record_at(self.records, item).value
+        self.record(item).value
     }
 
     fn read_count(&self, item: usize) -> u8 {
-        record_at(self.records, item).count
+        self.record(item).count
     }
 
     fn write_lock(&mut self, item: usize, lock: Lock) -> bool {
-        write_lock_in(self.records, item, lock)
+        let may = lock.is_storable();
+        self.update(item, may, |old| Record { lock, ..old })
     }
 
     fn write_value(&mut self, item: usize, value: V) -> bool {
-        write_value_in(self.records, item, value)
+        self.update(item, true, |old| Record { value, ..old })
     }
 
     fn swap_lock(&mut self, item: usize, expected: Lock, lock: Lock) -> bool {
-        swap_lock_in(self.records, item, expected, lock)
+        self.read_lock(item) == expected && self.write_lock(item, lock)
     }
 
     fn swap_count(&mut self, item: usize, expected: u8, count: u8) -> bool {
-        swap_count_in(self.records, item, expected, count)
+        let may = count <= MOST_PROCESSES && self.read_count(item) == expected;
+        self.update(item, may, |old| Record { count, ..old })
     }
 }
