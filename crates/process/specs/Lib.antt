@@ -1,3 +1,4 @@
+pub mod Answers
 pub mod Moves
 pub mod Rows
 pub mod Tells

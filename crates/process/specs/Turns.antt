@@ -3,7 +3,7 @@ use Rattle.std.specs.Prelude.{ℕ, cond, List, Some, None, Option}
 use Rattle.bank.specs.declared.record.Record.{Record}
 use Rattle.table.specs.declared.entry.Entry.{Entry}
 use Rattle.rows.specs.Primitives.{touched}
-use Rattle.process.specs.Moves.{Move, noted}
+use Rattle.process.specs.Moves.{Move, keep, noted}
 use Rattle.process.specs.Rows.{Turn}
 use Rattle.process.specs.Tells.{Told, answer_told}
 use Rattle.process.specs.Traits.{full}
@@ -30,6 +30,10 @@ pub record Stepped (V : Type 0) : Type 0 where
   pub entries : List (Entry V)
 
 module _ {V : Type 0} where
+  -- that leaves the table alone
+  abbrev pub turn_by : Answer V → Process → Turn V
+  turn_by a q = record { tells = answer_told a; process = q; note = keep }
+
   abbrev pub done_by : Answer V → Process → List (Entry V) → Turned V
   done_by a q es = record { tells = answer_told a; process = q; entries = es }
 

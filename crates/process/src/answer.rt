@@ -1,7 +1,8 @@
 //! What an accepted call answers.
+ghost use Rattle.process.specs.Answers.{WithValue, AtValue};
 
 /// The answer to an accepted call.
-#[derive(Clone, Copy)]
+#[derive(Clone, Copy, PartialEq, Eq, Debug)]
 pub enum Answer<V> {
     /// The call is done.
     Done,
@@ -15,4 +16,21 @@ pub enum Answer<V> {
     Committed,
     /// The transaction ended without effect: by choice, or because of a commit that wrote this item.
     Aborted(Option<u8>),
+}
+
+impl<V> Answer<V> {
+    /// The answer with its value changed by `f`.
+    pub fn map<W, F: FnOnce(V) -> W>(self, f: F) -> Answer<W>
+        requires { AtValue self (F.pre f) }
+        ensures { WithValue (F.post f) self result }
+    {
+        match self {
+            Answer::Done => Answer::Done,
+            Answer::Going => Answer::Going,
+            Answer::Waiting => Answer::Waiting,
+            Answer::Value(value) => Answer::Value(f(value)),
+            Answer::Committed => Answer::Committed,
+            Answer::Aborted(cause) => Answer::Aborted(cause),
+        }
+    }
 }

@@ -3,7 +3,7 @@ use rows::Place;
 use table::Sizes;
 
 /// How the latest transaction of a process stands.
-#[derive(Clone, Copy)]
+#[derive(Clone, Copy, PartialEq, Eq, Debug)]
 pub enum Status {
     Null,
     Committed,
@@ -11,7 +11,7 @@ pub enum Status {
 }
 
 /// The latest transaction of a process: its status, the sizes of its sets, and where it stands.
-#[derive(Clone, Copy)]
+#[derive(Clone, Copy, PartialEq, Eq, Debug)]
 pub struct Process {
     pub status: Status,
     pub sizes: Sizes,

@@ -1,13 +1,12 @@
 //! One step of a process.
-ghost use Rattle.std.specs.Prelude.{◌≡◌, ◌+◌, ◌<◌, ◌≤◌, Some, None};
+ghost use Rattle.std.specs.Prelude.{◌≡◌, ◌+◌, ◌^◌, ◌<◌, ◌≤◌};
+ghost use Rattle.table.specs.Lent.{entries_of, place_of};
 ghost use Rattle.bank.specs.Limits.{set_size};
-ghost use Rattle.rows.specs.Primitives.{touched};
 ghost use Rattle.rows.specs.Places.{seen_to};
-ghost use Rattle.table.specs.Tasks.{task, next_item, sequence_or};
+ghost use Rattle.table.specs.Tasks.{task, seen, next_item, sequence_or};
 ghost use Rattle.process.specs.Moves.{noted};
-ghost use Rattle.process.specs.Rows.{placed, decided, read_one, go as go_def, wait as wait_def, fetched, settled, numbered, unlock_to, written_to, move as move_def};
-ghost use Rattle.process.specs.Tells.{answer_told, committed};
-ghost use Rattle.process.specs.Turns.{turned, done_by, ran, ran_by, stepped, stepped_by};
+ghost use Rattle.process.specs.Rows.{placed, decided, read_one, fetched, settled, numbered, locked, unlock_to, written_to, move as move_def};
+ghost use Rattle.process.specs.Turns.{turn_by, turned, done_by, ran, ran_by, stepped, stepped_by};
 ghost use Rattle.process.specs.Traits.{traits, full};
 
 use crate::answer::Answer;
@@ -15,24 +14,21 @@ use crate::record::{Process, Status};
 use bank::{Bank, Lock, SET_SIZE};
 use kinds::Kind;
 use rows::{Place, Reply, ask};
-use table::{Entry, Part, Sizes, Table};
+use table::{Entry, Part, Table, Task};
 
 // The number of the owner's entry, or that of the lock where it has none.
 fn sequence_or<V: Kind>(sequence: u64, owned: Option<Entry<V>>) -> u64
     ensures { result ≡ sequence_or sequence owned }
 {
-    match owned {
-        Some(entry) => entry.sequence,
-        None => sequence,
-    }
+    owned.map_or(sequence, |entry| entry.sequence)
 }
 
 // L2: without an owner the number is compared; else the owner is asked first.
-fn seen<V: Kind>(table: &Table<'_, V>, me: u8, sizes: Sizes, item: u8, lock: Lock) -> Place
-    ensures { result ≡ seen_to (task V.blank table.now.entries.now me sizes) item lock }
+fn seen<V: Kind>(task: &Task<'_, V>, item: u8, lock: Lock) -> Place
+    ensures { result ≡ seen_to (seen V.blank task.now) item lock }
 {
     if lock.owner == 0 {
-        return Place::compared(table, me, sizes, item, lock.sequence);
+        return Place::compared(task, item, lock.sequence);
     }
     Place::L3 { item, lock }
 }
@@ -56,12 +52,14 @@ impl Process {
         Answer::Waiting
     }
 
-    // Ends the transaction.
-    fn end(&mut self, status: Status)
-        ensures { self.new ≡ decided self.old status Place.Closed }
+    // Ends the transaction, with this answer.
+    fn end<V: Kind>(&mut self, status: Status, answer: Answer<V>) -> Answer<V>
+        ensures process { self.new ≡ decided self.old status Place.Closed }
+        ensures answer { result ≡ answer }
     {
         self.status = status;
         self.place = Place::Closed;
+        answer
     }
 
     // Ends a read: the entry after the read set joins it.
@@ -83,8 +81,8 @@ impl Process {
         value: V,
     ) -> Answer<V>
         requires { self.old.sizes.reads < 8 }
-        ensures exact { done_by result self.new table.new.entries.now ≡ turned table.old.entries.now me (fetched self.old (task V.blank table.old.entries.now me self.old.sizes) item lock value) }
-        ensures stays { table.new.entries.ghost_name ≡ table.old.entries.ghost_name }
+        ensures exact { done_by result self.new (entries_of table.new) ≡ turned (entries_of table.old) me (fetched self.old (task V.blank (entries_of table.old) me self.old.sizes) item lock value) }
+        ensures stays { place_of table.new ≡ place_of table.old }
     {
         let entry = Entry {
             item,
@@ -108,8 +106,8 @@ impl Process {
         owned: Option<Entry<V>>,
     ) -> Answer<V>
         requires { self.old.sizes.reads < 8 }
-        ensures exact { done_by result self.new table.new.entries.now ≡ turned table.old.entries.now me (settled self.old (task V.blank table.old.entries.now me self.old.sizes) owned) }
-        ensures stays { table.new.entries.ghost_name ≡ table.old.entries.ghost_name }
+        ensures exact { done_by result self.new (entries_of table.new) ≡ turned (entries_of table.old) me (settled self.old (task V.blank (entries_of table.old) me self.old.sizes) owned) }
+        ensures stays { place_of table.new ≡ place_of table.old }
     {
         let at = self.sizes.reads;
         self.end_read();
@@ -118,18 +116,19 @@ impl Process {
                 table.put(me, Part::Reads, at, entry);
                 Answer::Value(entry.value)
             }
-            None => Answer::Value(table.entry(me, Part::Reads, at).value),
+            None => Answer::Value(table.task(me, self.sizes).entry(Part::Reads, at).value),
         }
     }
 
     // The item's entry of the write set, if there is one, takes the number.
     fn number<V: Kind>(&self, table: &mut Table<'_, V>, me: u8, item: u8, sequence: u64)
-        ensures after { table.new.entries.now ≡ noted table.old.entries.now me (numbered self.now (task V.blank table.old.entries.now me self.now.sizes) item sequence) }
-        ensures stays { table.new.entries.ghost_name ≡ table.old.entries.ghost_name }
+        ensures after { entries_of table.new ≡ noted (entries_of table.old) me (numbered self.now (task V.blank (entries_of table.old) me self.now.sizes) item sequence) }
+        ensures stays { place_of table.new ≡ place_of table.old }
     {
-        let at = table.write_slot(me, self.sizes, item);
+        let task = table.task(me, self.sizes);
+        let at = task.write_slot(item);
         if at < self.sizes.writes {
-            let value = table.entry(me, Part::Writes, at).value;
+            let value = task.entry(Part::Writes, at).value;
             table.put(
                 me,
                 Part::Writes,
@@ -143,16 +142,30 @@ impl Process {
         }
     }
 
-    // U at the next item; after the last the transaction ends.
-    fn unlock_from<V: Kind>(&mut self, table: &Table<'_, V>, me: u8, from: usize) -> Answer<V>
-        ensures { done_by result self.new table.now.entries.now ≡ turned table.now.entries.now me (unlock_to self.old (next_item (task V.blank table.now.entries.now me self.old.sizes) from)) }
+    // L4 took the lock: the number goes up by one, and on to the next item.
+    fn lock<V: Kind>(
+        &mut self,
+        table: &mut Table<'_, V>,
+        me: u8,
+        item: u8,
+        sequence: u64,
+    ) -> Answer<V>
+        requires { sequence + 1 < 2 ^ 64 }
+        ensures exact { done_by result self.new (entries_of table.new) ≡ turned (entries_of table.old) me (locked self.old (task V.blank (entries_of table.old) me self.old.sizes) item sequence) }
+        ensures stays { place_of table.new ≡ place_of table.old }
     {
-        match table.next_item(me, self.sizes, from) {
+        let next = Place::lock_from(&table.task(me, self.sizes), item as usize + 1);
+        self.number(table, me, item, sequence + 1);
+        self.go(next)
+    }
+
+    // U at the next item; after the last the transaction ends.
+    fn unlock_from<V: Kind>(&mut self, task: &Task<'_, V>, from: usize) -> Answer<V>
+        ensures { turn_by result self.new ≡ unlock_to self.old (next_item (seen V.blank task.now) from) }
+    {
+        match task.next_item(from) {
             Some(item) => self.go(Place::U { item }),
-            None => {
-                self.end(Status::Committed);
-                Answer::Committed
-            }
+            None => self.end(Status::Committed, Answer::Committed),
         }
     }
 
@@ -166,13 +179,14 @@ impl Process {
     }
 
     // W at the entry after `at` of the write set; after the last U.
-    fn write_after<V: Kind>(&mut self, table: &Table<'_, V>, me: u8, at: u8) -> Answer<V>
-        ensures { done_by result self.new table.now.entries.now ≡ turned table.now.entries.now me (written_to self.old (task V.blank table.now.entries.now me self.old.sizes) at) }
+    fn write_after<V: Kind>(&mut self, task: &Task<'_, V>, at: u8) -> Answer<V>
+        ensures { turn_by result self.new ≡ written_to self.old (seen V.blank task.now) at }
     {
-        if at < self.sizes.writes && at + 1 < self.sizes.writes {
+        let writes = task.sizes().writes;
+        if at < writes && at + 1 < writes {
             return self.go(Place::W { at: at + 1 });
         }
-        self.unlock_from(table, me, 0)
+        self.unlock_from(task, 0)
     }
 
     // Whether a read is under way whose entry would find no room.
@@ -197,8 +211,8 @@ impl Process {
         me: u8,
         owned: Option<Entry<B::Value>>,
     ) -> Option<Answer<B::Value>>
-        ensures exact { stepped_by result (B.cells bank.new) self.new table.new.entries.now ≡ stepped B.Value.blank (B.cells bank.old) self.old table.old.entries.now me (move_def B.Value.blank (B.cells bank.old) self.old (task B.Value.blank table.old.entries.now me self.old.sizes) owned) }
-        ensures stays { (table.new.entries.ghost_name ≡ table.old.entries.ghost_name) × (B.places bank.new ≡ B.places bank.old) }
+        ensures exact { stepped_by result (B.cells bank.new) self.new (entries_of table.new) ≡ stepped B.Value.blank (B.cells bank.old) self.old (entries_of table.old) me (move_def B.Value.blank (B.cells bank.old) self.old (task B.Value.blank (entries_of table.old) me self.old.sizes) owned) }
+        ensures stays { (place_of table.new ≡ place_of table.old) × (B.places bank.new ≡ B.places bank.old) }
     {
         if self.is_full() {
             return None;
@@ -215,78 +229,48 @@ impl Process {
         owned: Option<Entry<B::Value>>,
     ) -> Answer<B::Value>
         requires { self.old.sizes.reads + (traits self.old.place).ahead ≤ set_size }
-        ensures exact { ran_by result (B.cells bank.new) self.new table.new.entries.now ≡ ran B.Value.blank (B.cells bank.old) table.old.entries.now me (move_def B.Value.blank (B.cells bank.old) self.old (task B.Value.blank table.old.entries.now me self.old.sizes) owned) }
-        ensures stays { (table.new.entries.ghost_name ≡ table.old.entries.ghost_name) × (B.places bank.new ≡ B.places bank.old) }
+        ensures exact { ran_by result (B.cells bank.new) self.new (entries_of table.new) ≡ ran B.Value.blank (B.cells bank.old) (entries_of table.old) me (move_def B.Value.blank (B.cells bank.old) self.old (task B.Value.blank (entries_of table.old) me self.old.sizes) owned) }
+        ensures stays { (place_of table.new ≡ place_of table.old) × (B.places bank.new ≡ B.places bank.old) }
     {
-        let reply = ask(self.place, bank, table, me, self.sizes);
-        let sizes = self.sizes;
+        let task = &table.task(me, self.sizes);
+        let reply = ask(self.place, bank, task);
         match (&mut self.place, reply) {
             (&mut Place::R1 { item }, Reply::Count(count)) => self.go(Place::R2 { item, count }),
             (&mut Place::R2 { item, .. }, Reply::Said(true)) => self.go(Place::R3 { item }),
             (&mut Place::R2 { item, .. }, Reply::Said(false)) => self.wait(Place::R1 { item }),
             (&mut Place::R3 { item }, Reply::Lock(lock)) => self.go(Place::R4 { item, lock }),
-            (&mut Place::R4 { item, lock }, Reply::Value(value)) => self.fetch(
-                table, me, item, lock, value,
-            ),
-            (&mut Place::R5 { .. }, Reply::Nothing) => self.settle(table, me, owned),
-            (&mut Place::D1 { at, abort }, Reply::Count(count)) => self.go(Place::D2 {
-                at,
-                count,
-                abort,
-            }),
-            (&mut Place::D2 { at, abort, .. }, Reply::Said(true)) => self.go(Place::count_from(
-                table,
-                me,
-                sizes,
-                at as usize + 1,
-                abort,
-            )),
-            (&mut Place::D2 { at, abort, .. }, Reply::Said(false) | Reply::Nothing) => self.wait(
-                Place::D1 { at, abort },
-            ),
-            (&mut Place::C, Reply::Nothing) => {
-                self.end(Status::Committed);
-                Answer::Committed
+            (&mut Place::R4 { item, lock }, Reply::Value(value)) => {
+                self.fetch(table, me, item, lock, value)
             }
+            (&mut Place::R5 { .. }, _) => self.settle(table, me, owned),
+            (&mut Place::D1 { at, abort }, Reply::Count(count)) => {
+                self.go(Place::D2 { at, count, abort })
+            }
+            (&mut Place::D2 { at, abort, .. }, Reply::Said(true)) => {
+                self.go(Place::count_from(task, at as usize + 1, abort))
+            }
+            (&mut Place::D2 { at, abort, .. }, _) => self.wait(Place::D1 { at, abort }),
+            (&mut Place::C, _) => self.end(Status::Committed, Answer::Committed),
             (&mut Place::L1 { item }, Reply::Lock(lock)) => self.go(Place::L2 { item, lock }),
-            (&mut Place::L2 { item, lock }, Reply::Value(_)) => self.go(seen(
-                table, me, sizes, item, lock,
-            )),
-            (&mut Place::L3 { item, lock }, Reply::Nothing) => self.go(Place::compared(
-                table,
-                me,
-                sizes,
-                item,
-                sequence_or(lock.sequence, owned),
-            )),
-            (&mut Place::L4 { item, sequence }, Reply::Said(true)) => {
-                let next = Place::lock_from(table, me, sizes, item as usize + 1);
-                self.number(table, me, item, sequence + 1);
-                self.go(next)
+            (&mut Place::L2 { item, lock }, _) => self.go(seen(task, item, lock)),
+            (&mut Place::L3 { item, lock }, _) => {
+                self.go(Place::compared(task, item, sequence_or(lock.sequence, owned)))
             }
-            (&mut Place::L4 { item, .. }, Reply::Said(false)) => self.wait(Place::L1 { item }),
+            (&mut Place::L4 { item, sequence }, Reply::Said(true)) => {
+                self.lock(table, me, item, sequence)
+            }
+            (&mut Place::L4 { item, .. }, _) => self.wait(Place::L1 { item }),
             (&mut Place::K, Reply::Said(true)) => self.commit(),
             (&mut Place::K, Reply::Said(false)) => Answer::Waiting,
-            (&mut Place::W { at }, Reply::Said(_)) => self.write_after(table, me, at),
-            (&mut Place::U { item }, Reply::Said(_)) => self.unlock_from(
-                table,
-                me,
-                item as usize + 1,
-            ),
-            (&mut Place::A1 { item, cause }, Reply::Lock(lock)) => self.go(Place::released(
-                table, me, sizes, item, lock, cause,
-            )),
-            (&mut Place::A2 { item, cause, .. }, Reply::Said(_)) => self.go(Place::abort_from(
-                table,
-                me,
-                sizes,
-                item as usize + 1,
-                cause,
-            )),
-            (&mut Place::A3 { cause }, Reply::Nothing) => {
-                self.end(Status::Aborted);
-                Answer::Aborted(cause)
+            (&mut Place::W { at }, _) => self.write_after(task, at),
+            (&mut Place::U { item }, _) => self.unlock_from(task, item as usize + 1),
+            (&mut Place::A1 { item, cause }, Reply::Lock(lock)) => {
+                self.go(Place::released(task, item, lock, cause))
             }
+            (&mut Place::A2 { item, cause, .. }, _) => {
+                self.go(Place::abort_from(task, item as usize + 1, cause))
+            }
+            (&mut Place::A3 { cause }, _) => self.end(Status::Aborted, Answer::Aborted(cause)),
             (_, _) => Answer::Going,
         }
     }

@@ -2,7 +2,7 @@
 use bank::Lock;
 
 /// Where a process stands: closed, idle in an open transaction, or before the row that its next step runs.
-#[derive(Clone, Copy)]
+#[derive(Clone, Copy, PartialEq, Eq, Debug)]
 pub enum Place {
     /// No transaction is open.
     Closed,

@@ -1,15 +1,26 @@
 -- The entries of the working table, and the sets that they make up.
 -- A process has sixteen entries: eight for its read set, then eight for its write set.
-use Rattle.std.specs.Prelude.{ℕ, suc, ◌+◌, ◌-◌, ◌*◌, cond, List, [], ◌∷◌, take, drop, Some, None, Option, ◌==◌, nat_lt, slice_index_or}
+use Rattle.std.specs.Prelude.{ℕ, ◌+◌, ◌-◌, ◌*◌, cond, List, [], ◌∷◌, ◌++◌, length, take, drop, Some, None, Option, ◌==◌, nat_lt, slice_index_or, unwrap_or}
+use Rattle.std.specs.List.{find as first_that, fold, position_from}
 use Rattle.bank.specs.Limits.{set_size}
 use Rattle.table.specs.declared.entry.Entry.{Entry}
 use Rattle.table.specs.declared.entry.Part.{Part}
 use Rattle.table.specs.declared.entry.Part.TheVariants.{Reads, Writes}
+use Rattle.table.specs.declared.entry.Sizes.{Sizes}
 
 -- where a process's part begins
 abbrev pub start : ℕ → Part → ℕ
 start p Reads = 2 * set_size * (p - 1)
 start p Writes = 2 * set_size * (p - 1) + set_size
+
+-- the size of the set in a part
+abbrev pub size_of : Part → Sizes → ℕ
+size_of Reads z = z.reads
+size_of Writes z = z.writes
+
+-- one more item behind others, where there is room for it
+abbrev pub pushed : ℕ → List ℕ → List ℕ
+pushed i is = cond (nat_lt (length is) set_size) (is ++ i ∷ []) is
 
 -- the lower of an item and the best so far, among those not below `from`
 abbrev pub lower : ℕ → ℕ → Option ℕ → Option ℕ
@@ -32,15 +43,16 @@ module _ {V : Type 0} where
 
   -- the first entry that has the item
   abbrev pub find : ℕ → List (Entry V) → Option (Entry V)
-  find i [] = None
-  find i (e ∷ es) = cond (e.item == i) (Some e) (find i es)
+  find i es = first_that (λ e. e.item == i) es
 
-  -- where the first entry that has the item stands, or where the set ends
+  -- where the first entry that has the item stands
+  abbrev pub place : ℕ → List (Entry V) → Option ℕ
+  place i es = position_from (λ e. e.item == i) 0 es
+
+  -- where it stands, or where the set ends
   abbrev pub slot : ℕ → List (Entry V) → ℕ
-  slot i [] = 0
-  slot i (e ∷ es) = cond (e.item == i) 0 (suc (slot i es))
+  slot i es = unwrap_or (place i es) (length es)
 
   -- the lowest item not below `from`, of the set's and of the best so far
   abbrev pub lowest : ℕ → Option ℕ → List (Entry V) → Option ℕ
-  lowest from best [] = best
-  lowest from best (e ∷ es) = lowest from (lower from e.item best) es
+  lowest from best es = fold (λ found e. lower from e.item found) best es

@@ -4,6 +4,7 @@ use Rattle.table.specs.declared.entry.Entry.{Entry}
 use Rattle.table.specs.declared.entry.Part.{Part}
 use Rattle.table.specs.declared.entry.Part.TheVariants.{Reads, Writes}
 use Rattle.table.specs.declared.entry.Sizes.{Sizes}
+use Rattle.table.specs.declared.task.Task as view
 use Rattle.table.specs.Sets.{entry_at, start, set_of, find, slot, lowest}
 
 -- a process's number, the sizes of its sets, its parts entry by entry, and its two sets
@@ -25,12 +26,21 @@ task blank es p z =
     }
 
 module _ {V : Type 0} where
+  -- what the code's view of a process's sets is a view of
+  abbrev pub seen : V → view.Task V → Task V
+  seen blank v = task blank v.entries.now v.me v.sizes
+
   -- the number of the entry, or n where there is none
   abbrev pub sequence_or : ℕ → Option (Entry V) → ℕ
   sequence_or n None = n
   sequence_or n (Some e) = e.sequence
 
 module _ {V : Type 0} (t : Task V) where
+  -- the set in a part
+  abbrev pub set_at : Part → List (Entry V)
+  set_at Reads = t.reads
+  set_at Writes = t.writes
+
   abbrev pub in_reads : ℕ → Option (Entry V)
   in_reads i = find i t.reads
 

@@ -1,24 +1,17 @@
 //! What a set, a run of entries, holds.
-ghost use Rattle.std.specs.Prelude.{◌≡◌, ◌≤◌, ◌-◌, min, map, length, take, drop, replicate, slice_set};
+ghost use Rattle.std.specs.Prelude.{◌≡◌, ◌≤◌, ◌<◌, map, length, take, slice_set, IfSome};
 ghost use Rattle.bank.specs.Limits.{set_size};
-ghost use Rattle.table.specs.Sets.{entry_at, set_of, find, slot, lower, lowest, item_of};
+ghost use Rattle.table.specs.Sets.{entry_at, set_of, find, place, slot, lower, lowest, item_of};
 
 use crate::entry::{Entry, Part};
-use bank::SET_SIZE;
+use crate::items::Items;
 use kinds::Kind;
 
 // The entry at an index; past the end a blank one.
 pub fn entry_in<V: Kind>(entries: &[Entry<V>], at: usize) -> Entry<V>
     ensures { result ≡ entry_at V.blank entries.now at }
 {
-    if at < entries.len() {
-        return entries[at];
-    }
-    Entry {
-        item: 0,
-        sequence: 0,
-        value: V::blank(),
-    }
+    entries.get(at).copied().unwrap_or(Entry::blank())
 }
 
 // Puts an entry at an index; past the end nothing is done.
@@ -44,12 +37,7 @@ pub fn set_in<V: Kind>(entries: &[Entry<V>], process: u8, part: Part, size: u8) 
 pub fn find_in<V: Kind>(set: &[Entry<V>], item: u8) -> Option<Entry<V>>
     ensures { result ≡ find item set.now }
 {
-    for entry in set {
-        if entry.item == item {
-            return Some(*entry);
-        }
-    }
-    None
+    set.iter().copied().find(|entry| entry.item == item)
 }
 
 // Where the first entry that has the item stands, or where the set ends.
@@ -57,14 +45,15 @@ pub fn slot_in<V: Kind>(set: &[Entry<V>], item: u8) -> usize
     ensures slot { result ≡ slot item set.now }
     ensures within { result ≤ length set.now }
 {
-    let mut at = 0;
-    for entry in set {
-        if entry.item == item {
-            return at;
-        }
-        at += 1;
-    }
-    at
+    place_in(set, item).unwrap_or(set.len())
+}
+
+// The place of the first entry that has the item.
+fn place_in<V: Kind>(set: &[Entry<V>], item: u8) -> Option<usize>
+    ensures place { result ≡ place item set.now }
+    ensures within { IfSome result (λ i. i < length set.now) }
+{
+    set.iter().position(|entry| entry.item == item)
 }
 
 // The lower of an item and the best so far, among those not below `from`.
@@ -75,8 +64,8 @@ fn lower_of(from: usize, item: u8, best: Option<u8>) -> Option<u8>
         return best;
     }
     match best {
-        Some(b) => Some(if item < b { item } else { b }),
-        None => Some(item),
+        Some(b) if b <= item => best,
+        _ => Some(item),
     }
 }
 
@@ -84,23 +73,17 @@ fn lower_of(from: usize, item: u8, best: Option<u8>) -> Option<u8>
 pub fn lowest_in<V: Kind>(set: &[Entry<V>], from: usize, best: Option<u8>) -> Option<u8>
     ensures { result ≡ lowest from best set.now }
 {
-    let mut found = best;
-    for entry in set {
-        found = lower_of(from, entry.item, found);
-    }
-    found
+    set.iter()
+        .fold(best, |found, entry| lower_of(from, entry.item, found))
 }
 
-// How many entries the set has, of more than eight the first eight, and their items with zeros behind them.
-pub fn items_in<V: Kind>(set: &[Entry<V>]) -> (usize, [usize; SET_SIZE])
-    ensures count { result.0 ≤ set_size }
-    ensures items { take result.0 result.1 ≡ take set_size (map item_of set.now) }
-    ensures zeros { drop result.0 result.1 ≡ replicate (set_size - result.0) 0 }
+// The items of the first eight entries of the set.
+pub fn items_in<V: Kind>(set: &[Entry<V>]) -> Items
+    ensures { result ≡ take set_size (map item_of set.now) }
 {
-    let mut items = [0; SET_SIZE];
-    let count = set.len().min(SET_SIZE);
-    for at in 0..count {
-        items[at] = set[at].item as usize;
+    let mut items = Items::new();
+    for entry in set {
+        items.push(entry.item as usize);
     }
-    (count, items)
+    items
 }
