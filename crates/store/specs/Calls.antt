@@ -1,5 +1,5 @@
 -- The calls: on which grounds each is refused, in order, and what an accepted one does.
-use Rattle.std.specs.Prelude.{ℕ, ◌+◌, ◌-◌, ◌*◌, Bool, true, false, cond, not, ◌&&◌, ◌||◌, List, [], ◌∷◌, map, length, replicate, Some, None, Option, ◌==◌, nat_le, nat_lt}
+use Rattle.std.specs.Prelude.{ℕ, ◌+◌, ◌-◌, ◌*◌, Bool, true, false, cond, not, ◌&&◌, ◌||◌, List, [], ◌∷◌, ◌++◌, map, length, replicate, Some, None, Option, ◌==◌, nat_le, nat_lt}
 use Rattle.bank.specs.Limits.{most_items, most_processes, most_sequence, set_size}
 use Rattle.bank.specs.declared.record.Record.{Record}
 use Rattle.table.specs.Tasks.{in_reads, in_writes, write_slot}
@@ -73,31 +73,23 @@ module _ {V : Type 0} where
   abbrev pub under_way_at : Memory V → ℕ → Bool
   under_way_at s p = (traits (process s p).place).under_way
 
+  -- of every call of a process
+  abbrev pub known_grounds : Memory V → ℕ → List Ground
+  known_grounds s p = ground 1 (short_table s.entries s.number) ∷ ground 2 (no_process s p) ∷ []
+
+  -- of every call of an open transaction
+  abbrev pub open_grounds : Memory V → ℕ → List Ground
+  open_grounds s p = known_grounds s p ++ ground 4 (not (open_at s p)) ∷ []
+
   abbrev pub begin_grounds : Memory V → ℕ → List Ground
-  begin_grounds s p =
-      ground 1 (short_table s.entries s.number)
-      ∷ ground 2 (no_process s p)
-      ∷ ground 3 (open_at s p)
-      ∷ ground 7 (remembered 1 s.processes p)
-      ∷ ground 8 (s.life == 0)
-      ∷ []
+  begin_grounds s p = known_grounds s p ++ ground 3 (open_at s p) ∷ ground 7 (remembered 1 s.processes p) ∷ ground 8 (s.life == 0) ∷ []
 
   abbrev pub step_grounds : Memory V → ℕ → List Ground
-  step_grounds s p =
-      ground 1 (short_table s.entries s.number)
-      ∷ ground 2 (no_process s p)
-      ∷ ground 4 (not (open_at s p))
-      ∷ ground 6 (not (under_way_at s p))
-      ∷ []
+  step_grounds s p = open_grounds s p ++ ground 6 (not (under_way_at s p)) ∷ []
 
   -- of read, write, try-commit and abort
   abbrev pub operation_grounds : Memory V → ℕ → List Ground
-  operation_grounds s p =
-      ground 1 (short_table s.entries s.number)
-      ∷ ground 2 (no_process s p)
-      ∷ ground 4 (not (open_at s p))
-      ∷ ground 5 (under_way_at s p)
-      ∷ []
+  operation_grounds s p = open_grounds s p ++ ground 5 (under_way_at s p) ∷ []
 
   abbrev pub no_item : List (Record V) → ℕ → Bool
   no_item cs i = nat_le (length cs) i || nat_le most_items i
@@ -165,11 +157,15 @@ module _ {V : Type 0} (blank : V) where
   abbrev pub write : State V → ℕ → ℕ → V → Outcome V
   write s p i v = unless (item_refusal s p i) s (over s.cells (write_by s.memory p i v (in_writes (task_of blank s.memory p) i)))
 
+  -- the end of the transaction starts: the read set is counted out, and then to abort or to commit
+  abbrev pub closes : State V → ℕ → Bool → Outcome V
+  closes s p aborting = unless (first_ground (operation_grounds s.memory p)) s (starts s p (count_from (task_of blank s.memory p) 0 aborting))
+
   abbrev pub try_commit : State V → ℕ → Outcome V
-  try_commit s p = unless (first_ground (operation_grounds s.memory p)) s (starts s p (count_from (task_of blank s.memory p) 0 false))
+  try_commit s p = closes s p false
 
   abbrev pub abort : State V → ℕ → Outcome V
-  abort s p = unless (first_ground (operation_grounds s.memory p)) s (starts s p (count_from (task_of blank s.memory p) 0 true))
+  abort s p = closes s p true
 
   abbrev pub step : State V → ℕ → Outcome V
   step s p = unless (first_ground (step_grounds s.memory p)) s (accepted blank s p (row blank s p))

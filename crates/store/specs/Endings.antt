@@ -4,6 +4,7 @@ use Rattle.process.specs.Rows.{among}
 use Rattle.process.specs.Traits.{traits}
 use Rattle.store.specs.declared.answer.Ending.{Ending}
 use Rattle.store.specs.declared.answer.Ending.TheVariants as ending
+use Rattle.store.specs.declared.stored.Store.{Store}
 use Rattle.process.specs.declared.record.Process.{Process}
 use Rattle.process.specs.declared.record.Status.{Status}
 use Rattle.process.specs.declared.record.Status.TheVariants.{Null, Committed, Aborted}
@@ -16,3 +17,7 @@ ending_by Aborted = ending.Aborted
 -- none while it is open; aborted if there was none
 abbrev pub ending_of : List Process → ℕ → ℕ → Option Ending
 ending_of ps number p = cond (traits (among ps number p).place).is_open None (Some (ending_by (among ps number p).status))
+
+-- of a process of the store
+abbrev pub ended_in : Store → ℕ → Option Ending
+ended_in st p = ending_of st.processes st.number p

@@ -3,3 +3,4 @@ pub mod Endings
 pub mod Model
 pub mod Rows
 pub mod Tells
+pub mod Values

@@ -1,5 +1,5 @@
 -- The whole state that the calls work on, what a call leaves of it, and what a move of one process makes of it.
-use Rattle.std.specs.Prelude.{ℕ, ◌-◌, List, slice_index_or, slice_set}
+use Rattle.std.specs.Prelude.{ℕ, ◌-◌, cond, ◌||◌, List, Some, None, Option, ◌==◌, nat_lt, slice_index_or, slice_set}
 use Rattle.bank.specs.declared.record.Record.{Record}
 use Rattle.table.specs.Tasks.{Task, task}
 use Rattle.table.specs.declared.entry.Entry.{Entry}
@@ -25,6 +25,10 @@ pub record State (V : Type 0) : Type 0 where
 pub record Outcome (V : Type 0) : Type 0 where
   pub tells : Told V
   pub after : State V
+
+-- the record of a process, if there is one of this number
+abbrev pub record_of : List Process → ℕ → ℕ → Option Process
+record_of ps number p = cond (p == 0 || nat_lt number p) None (Some (slice_index_or ps (p - 1) fresh))
 
 module _ {V : Type 0} where
   abbrev pub outcome : Told V → State V → Outcome V

@@ -1,6 +1,8 @@
 //! A call as a value, so that a list of them can be made.
 ghost use Rattle.std.specs.Prelude.{◌≡◌};
+ghost use Rattle.table.specs.Lent.{entries_of, place_of};
 ghost use Rattle.store.specs.Calls.{called};
+ghost use Rattle.store.specs.Values.{AtValue, WithValue};
 ghost use Rattle.store.specs.Model.{outcome, state};
 ghost use Rattle.store.specs.Tells.{told};
 
@@ -11,7 +13,7 @@ use process::Answer;
 use table::Table;
 
 /// One call on a store that is set up.
-#[derive(Clone, Copy)]
+#[derive(Clone, Copy, PartialEq, Eq, Debug)]
 pub enum Call<V> {
     Begin {
         process: usize,
@@ -36,6 +38,31 @@ pub enum Call<V> {
     },
 }
 
+impl<V> Call<V> {
+    /// The call with its value changed by `f`.
+    pub fn map<W, F: FnOnce(V) -> W>(self, f: F) -> Call<W>
+        requires { AtValue self (F.pre f) }
+        ensures { WithValue (F.post f) self result }
+    {
+        match self {
+            Call::Begin { process } => Call::Begin { process },
+            Call::Read { process, item } => Call::Read { process, item },
+            Call::Write {
+                process,
+                item,
+                value,
+            } => Call::Write {
+                process,
+                item,
+                value: f(value),
+            },
+            Call::TryCommit { process } => Call::TryCommit { process },
+            Call::Abort { process } => Call::Abort { process },
+            Call::Step { process } => Call::Step { process },
+        }
+    }
+}
+
 impl Store {
     /// Makes one call.
     pub fn call<B: Bank>(
@@ -44,9 +71,9 @@ impl Store {
         table: &mut Table<'_, B::Value>,
         call: Call<B::Value>,
     ) -> Result<Answer<B::Value>, Refusal>
-        ensures exact { outcome (told result) (state (B.cells bank.new) self.new table.new.entries.now) ≡ called B.Value.blank (state (B.cells bank.old) self.old table.old.entries.now) call }
+        ensures exact { outcome (told result) (state (B.cells bank.new) self.new (entries_of table.new)) ≡ called B.Value.blank (state (B.cells bank.old) self.old (entries_of table.old)) call }
         ensures bank { B.places bank.new ≡ B.places bank.old }
-        ensures table { table.new.entries.ghost_name ≡ table.old.entries.ghost_name }
+        ensures table { place_of table.new ≡ place_of table.old }
     {
         match call {
             Call::Begin { process } => self.begin(bank, table, process),

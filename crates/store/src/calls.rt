@@ -1,9 +1,10 @@
 //! The calls on a store.
 ghost use Rattle.std.specs.Prelude.{◌≡◌, ◌-◌, ◌<◌, ◌≤◌, replicate, slice_index_or, slice_set};
+ghost use Rattle.table.specs.Lent.{entries_of, place_of};
 ghost use Rattle.bank.specs.Limits.{most_processes};
 ghost use Rattle.table.specs.Tasks.{in_reads, in_writes};
-ghost use Rattle.store.specs.Calls.{read_by, write_by, reached, begin as begin_def, read as read_def, write as write_def, try_commit as try_commit_def, abort as abort_def, step as step_def, set_up as set_up_def};
-ghost use Rattle.store.specs.Endings.{ending_of};
+ghost use Rattle.store.specs.Calls.{read_by, write_by, reached, begin as begin_def, read as read_def, write as write_def, try_commit as try_commit_def, abort as abort_def, closes, step as step_def, set_up as set_up_def};
+ghost use Rattle.store.specs.Endings.{ended_in};
 ghost use Rattle.store.specs.Model.{outcome, state, memory, task_of};
 ghost use Rattle.store.specs.Tells.{told, set_up_told};
 ghost use Rattle.process.specs.Traits.{Fits, fresh, traits};
@@ -14,7 +15,7 @@ use bank::{Bank, MOST_PROCESSES, SET_SIZE};
 use kinds::Kind;
 use process::{Answer, Process, Status};
 use rows::Place;
-use table::{Entry, Part, Sizes, Table};
+use table::{Entry, Part, Table};
 use upkeep::clear;
 
 impl Store {
@@ -25,20 +26,16 @@ impl Store {
         table: &mut Table<'_, B::Value>,
         process: usize,
     ) -> Result<Answer<B::Value>, Refusal>
-        ensures exact { outcome (told result) (state (B.cells bank.new) self.new table.new.entries.now) ≡ begin_def B.Value.blank (state (B.cells bank.old) self.old table.old.entries.now) process }
+        ensures exact { outcome (told result) (state (B.cells bank.new) self.new (entries_of table.new)) ≡ begin_def B.Value.blank (state (B.cells bank.old) self.old (entries_of table.old)) process }
         ensures bank { B.places bank.new ≡ B.places bank.old }
-        ensures table { table.new.entries.ghost_name ≡ table.old.entries.ghost_name }
+        ensures table { place_of table.new ≡ place_of table.old }
     {
         self.check_begin(table, process)?;
-        let fresh = Process {
-            status: Status::Null,
-            sizes: Sizes {
-                reads: 0,
-                writes: 0,
-            },
+        let begun = Process {
             place: Place::Idle,
+            ..Process::FRESH
         };
-        self.replace(process, fresh);
+        self.replace(process, begun);
         self.life -= 1;
         Ok(Answer::Done)
     }
@@ -51,9 +48,9 @@ impl Store {
         process: usize,
         item: usize,
     ) -> Result<Answer<B::Value>, Refusal>
-        ensures exact { outcome (told result) (state (B.cells bank.new) self.new table.new.entries.now) ≡ read_def B.Value.blank (state (B.cells bank.old) self.old table.old.entries.now) process item }
+        ensures exact { outcome (told result) (state (B.cells bank.new) self.new (entries_of table.new)) ≡ read_def B.Value.blank (state (B.cells bank.old) self.old (entries_of table.old)) process item }
         ensures bank { B.places bank.new ≡ B.places bank.old }
-        ensures table { table.new.entries.ghost_name ≡ table.old.entries.ghost_name }
+        ensures table { place_of table.new ≡ place_of table.old }
     {
         self.check_item(bank, table, process, item)?;
         self.read_item(table, process, item as u8)
@@ -68,9 +65,9 @@ impl Store {
         item: usize,
         value: B::Value,
     ) -> Result<Answer<B::Value>, Refusal>
-        ensures exact { outcome (told result) (state (B.cells bank.new) self.new table.new.entries.now) ≡ write_def B.Value.blank (state (B.cells bank.old) self.old table.old.entries.now) process item value }
+        ensures exact { outcome (told result) (state (B.cells bank.new) self.new (entries_of table.new)) ≡ write_def B.Value.blank (state (B.cells bank.old) self.old (entries_of table.old)) process item value }
         ensures bank { B.places bank.new ≡ B.places bank.old }
-        ensures table { table.new.entries.ghost_name ≡ table.old.entries.ghost_name }
+        ensures table { place_of table.new ≡ place_of table.old }
     {
         self.check_item(bank, table, process, item)?;
         self.write_item(table, process, item as u8, value)
@@ -83,15 +80,11 @@ impl Store {
         table: &mut Table<'_, B::Value>,
         process: usize,
     ) -> Result<Answer<B::Value>, Refusal>
-        ensures exact { outcome (told result) (state (B.cells bank.new) self.new table.new.entries.now) ≡ try_commit_def B.Value.blank (state (B.cells bank.old) self.old table.old.entries.now) process }
+        ensures exact { outcome (told result) (state (B.cells bank.new) self.new (entries_of table.new)) ≡ try_commit_def B.Value.blank (state (B.cells bank.old) self.old (entries_of table.old)) process }
         ensures bank { B.places bank.new ≡ B.places bank.old }
-        ensures table { table.new.entries.ghost_name ≡ table.old.entries.ghost_name }
+        ensures table { place_of table.new ≡ place_of table.old }
     {
-        self.check_operation(table, process)?;
-        let old = self.processes[process - 1];
-        let place = Place::count_from(table, process as u8, old.sizes, 0, false);
-        self.replace(process, Process { place, ..old });
-        Ok(Answer::Going)
+        self.close(bank, table, process, false)
     }
 
     /// Starts to abort the transaction, by choice.
@@ -101,13 +94,27 @@ impl Store {
         table: &mut Table<'_, B::Value>,
         process: usize,
     ) -> Result<Answer<B::Value>, Refusal>
-        ensures exact { outcome (told result) (state (B.cells bank.new) self.new table.new.entries.now) ≡ abort_def B.Value.blank (state (B.cells bank.old) self.old table.old.entries.now) process }
+        ensures exact { outcome (told result) (state (B.cells bank.new) self.new (entries_of table.new)) ≡ abort_def B.Value.blank (state (B.cells bank.old) self.old (entries_of table.old)) process }
         ensures bank { B.places bank.new ≡ B.places bank.old }
-        ensures table { table.new.entries.ghost_name ≡ table.old.entries.ghost_name }
+        ensures table { place_of table.new ≡ place_of table.old }
     {
-        self.check_operation(table, process)?;
-        let old = self.processes[process - 1];
-        let place = Place::count_from(table, process as u8, old.sizes, 0, true);
+        self.close(bank, table, process, true)
+    }
+
+    // Starts to end the transaction: the read set is counted out, and then to abort or to commit.
+    fn close<B: Bank>(
+        &mut self,
+        bank: &mut B,
+        table: &mut Table<'_, B::Value>,
+        process: usize,
+        abort: bool,
+    ) -> Result<Answer<B::Value>, Refusal>
+        ensures exact { outcome (told result) (state (B.cells bank.new) self.new (entries_of table.new)) ≡ closes B.Value.blank (state (B.cells bank.old) self.old (entries_of table.old)) process abort }
+        ensures bank { B.places bank.new ≡ B.places bank.old }
+        ensures table { place_of table.new ≡ place_of table.old }
+    {
+        let old = self.check_operation(table, process)?;
+        let place = Place::count_from(&table.task(process as u8, old.sizes), 0, abort);
         self.replace(process, Process { place, ..old });
         Ok(Answer::Going)
     }
@@ -119,12 +126,12 @@ impl Store {
         table: &mut Table<'_, B::Value>,
         process: usize,
     ) -> Result<Answer<B::Value>, Refusal>
-        ensures exact { outcome (told result) (state (B.cells bank.new) self.new table.new.entries.now) ≡ step_def B.Value.blank (state (B.cells bank.old) self.old table.old.entries.now) process }
+        ensures exact { outcome (told result) (state (B.cells bank.new) self.new (entries_of table.new)) ≡ step_def B.Value.blank (state (B.cells bank.old) self.old (entries_of table.old)) process }
         ensures bank { B.places bank.new ≡ B.places bank.old }
-        ensures table { table.new.entries.ghost_name ≡ table.old.entries.ghost_name }
+        ensures table { place_of table.new ≡ place_of table.old }
     {
-        self.check_step(table, process)?;
-        let owned = self.recalled(table, self.processes[process - 1].place);
+        let old = self.check_step(table, process)?;
+        let owned = self.recalled(table, old.place);
         match self.processes[process - 1].step(bank, table, process as u8, owned) {
             Some(answer) => Ok(answer),
             None => unreachable(),
@@ -133,12 +140,11 @@ impl Store {
 
     /// How the process's latest transaction ended: none while it is open, aborted if there was none.
     pub fn ending(&self, process: usize) -> Option<Ending>
-        ensures { result ≡ ending_of self.now.processes self.now.number process }
+        ensures { result ≡ ended_in self.now process }
     {
-        if process == 0 || process > self.number as usize {
+        let Some(latest) = self.record(process) else {
             return Some(Ending::Aborted);
-        }
-        let latest = self.processes[process - 1];
+        };
         match (latest.place, latest.status) {
             (Place::Closed, Status::Committed) => Some(Ending::Committed),
             (Place::Closed, _) => Some(Ending::Aborted),
@@ -152,10 +158,20 @@ impl Store {
         ensures number { result.number ≡ 0 }
         ensures life { result.life ≡ 0 }
     {
+        Store::fresh(0, 0)
+    }
+
+    // A store of so many processes that never began, with so many begins left.
+    fn fresh(number: u8, life: u64) -> Store
+        requires { number ≤ most_processes }
+        ensures processes { result.processes ≡ replicate most_processes fresh }
+        ensures number { result.number ≡ number }
+        ensures life { result.life ≡ life }
+    {
         Store {
             processes: [Process::FRESH; MOST_PROCESSES as usize],
-            number: 0,
-            life: 0,
+            number,
+            life,
         }
     }
 
@@ -167,26 +183,14 @@ impl Store {
         processes: usize,
         life: u64,
     ) -> Result<(), Refusal>
-        ensures exact { outcome (set_up_told result) (state (B.cells bank.new) self.new table.new.entries.now) ≡ set_up_def (state (B.cells bank.old) self.old table.old.entries.now) processes life }
+        ensures exact { outcome (set_up_told result) (state (B.cells bank.new) self.new (entries_of table.new)) ≡ set_up_def (state (B.cells bank.old) self.old (entries_of table.old)) processes life }
         ensures bank { B.places bank.new ≡ B.places bank.old }
-        ensures table { table.new.entries.ghost_name ≡ table.old.entries.ghost_name }
+        ensures table { place_of table.new ≡ place_of table.old }
     {
         self.check_set_up(bank, table, processes, life)?;
         clear(bank);
-        self.renew(processes as u8, life);
+        *self = Store::fresh(processes as u8, life);
         Ok(())
-    }
-
-    // So many processes that never began, and so many begins.
-    fn renew(&mut self, number: u8, life: u64)
-        requires { number ≤ most_processes }
-        ensures processes { self.new.processes ≡ replicate most_processes fresh }
-        ensures number { self.new.number ≡ number }
-        ensures life { self.new.life ≡ life }
-    {
-        self.processes = [Process::FRESH; MOST_PROCESSES as usize];
-        self.number = number;
-        self.life = life;
     }
 
     // Reads an item that there is.
@@ -197,13 +201,14 @@ impl Store {
         item: u8,
     ) -> Result<Answer<V>, Refusal>
         requires { (0 < process) × (process ≤ self.old.number) }
-        ensures { reached (told result) (memory self.new table.now.entries.now) ≡ read_by V.blank (memory self.old table.now.entries.now) process item (in_writes (task_of V.blank (memory self.old table.now.entries.now) process) item) (in_reads (task_of V.blank (memory self.old table.now.entries.now) process) item) }
+        ensures { reached (told result) (memory self.new (entries_of table.now)) ≡ read_by V.blank (memory self.old (entries_of table.now)) process item (in_writes (task_of V.blank (memory self.old (entries_of table.now)) process) item) (in_reads (task_of V.blank (memory self.old (entries_of table.now)) process) item) }
     {
         let old = self.processes[process - 1];
-        if let Some(entry) = table.in_writes(process as u8, old.sizes, item) {
+        let task = table.task(process as u8, old.sizes);
+        if let Some(entry) = task.find(Part::Writes, item) {
             return Ok(Answer::Value(entry.value));
         }
-        if let Some(entry) = table.in_reads(process as u8, old.sizes, item) {
+        if let Some(entry) = task.find(Part::Reads, item) {
             return Ok(Answer::Value(entry.value));
         }
         if old.sizes.reads as usize >= SET_SIZE {
@@ -224,13 +229,14 @@ impl Store {
     ) -> Result<Answer<V>, Refusal>
         requires there { (0 < process) × (process ≤ self.old.number) }
         requires idle { (traits (slice_index_or self.old.processes (process - 1) fresh).place).ahead ≡ 0 }
-        ensures exact { reached (told result) (memory self.new table.new.entries.now) ≡ write_by V.blank (memory self.old table.old.entries.now) process item value (in_writes (task_of V.blank (memory self.old table.old.entries.now) process) item) }
-        ensures table { table.new.entries.ghost_name ≡ table.old.entries.ghost_name }
+        ensures exact { reached (told result) (memory self.new (entries_of table.new)) ≡ write_by V.blank (memory self.old (entries_of table.old)) process item value (in_writes (task_of V.blank (memory self.old (entries_of table.old)) process) item) }
+        ensures table { place_of table.new ≡ place_of table.old }
     {
         let old = self.processes[process - 1];
-        let at = table.write_slot(process as u8, old.sizes, item);
+        let task = table.task(process as u8, old.sizes);
+        let at = task.write_slot(item);
         let mut sizes = old.sizes;
-        if table.in_writes(process as u8, old.sizes, item).is_none() {
+        if task.find(Part::Writes, item).is_none() {
             if sizes.writes as usize >= SET_SIZE {
                 return Err(Refusal::SetFull);
             }

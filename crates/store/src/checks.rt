@@ -1,7 +1,8 @@
 //! On which grounds a call is refused: each check goes down its list, and the first that holds counts.
-ghost use Rattle.std.specs.Prelude.{◌≡◌};
-ghost use Rattle.store.specs.Calls.{first_ground, begin_grounds, step_grounds, operation_grounds, item_refusal, set_up_grounds, holds_up, remembered as remembered_def};
-ghost use Rattle.store.specs.Model.{state, memory};
+ghost use Rattle.std.specs.Prelude.{◌≡◌, IfOk};
+ghost use Rattle.table.specs.Lent.{entries_of};
+ghost use Rattle.store.specs.Calls.{first_ground, known_grounds, open_grounds, begin_grounds, step_grounds, operation_grounds, item_refusal, set_up_grounds, holds_up, remembered as remembered_def};
+ghost use Rattle.store.specs.Model.{state, memory, record_of, process as process_def};
 ghost use Rattle.store.specs.Rows.{owned as owned_def, recalled as recalled_def};
 ghost use Rattle.store.specs.Tells.{refused_with};
 ghost use Rattle.process.specs.Traits.{traits};
@@ -12,7 +13,7 @@ use bank::{Bank, MOST_ITEMS, MOST_PROCESSES, MOST_SEQUENCE};
 use kinds::Kind;
 use process::{Process, Status};
 use rows::Place;
-use table::{ENTRIES, Entry, Table};
+use table::{ENTRIES, Entry, Part, Table};
 
 // The owner that a process remembers at a place, or 0.
 fn remembers(place: Place) -> u8
@@ -47,21 +48,46 @@ fn remembered(processes: &[Process], p: usize) -> bool
 }
 
 impl Store {
+    // The record of a process, if there is one of this number.
+    pub(crate) fn record(&self, process: usize) -> Option<Process>
+        ensures { result ≡ record_of self.now.processes self.now.number process }
+    {
+        let at = process.checked_sub(1)?;
+        self.processes[..self.number as usize].get(at).copied()
+    }
+
+    // Grounds 1 and 2, of every call of a process: else its record.
+    fn known<V: Kind>(&self, table: &Table<'_, V>, process: usize) -> Result<Process, Refusal>
+        ensures refusal { refused_with result ≡ first_ground (known_grounds (memory self.now (entries_of table.now)) process) }
+        ensures record { IfOk result (λ q. q ≡ process_def (memory self.now (entries_of table.now)) process) }
+    {
+        if table.len() < ENTRIES * self.number as usize {
+            return Err(Refusal::ShortTable);
+        }
+        self.record(process).ok_or(Refusal::NoProcess)
+    }
+
+    // Grounds 1, 2 and 4, of every call of an open transaction.
+    fn opened<V: Kind>(&self, table: &Table<'_, V>, process: usize) -> Result<Process, Refusal>
+        ensures refusal { refused_with result ≡ first_ground (open_grounds (memory self.now (entries_of table.now)) process) }
+        ensures record { IfOk result (λ q. q ≡ process_def (memory self.now (entries_of table.now)) process) }
+    {
+        let found = self.known(table, process)?;
+        match found.place {
+            Place::Closed => Err(Refusal::NotOpen),
+            _ => Ok(found),
+        }
+    }
+
     // Grounds 1, 2, 3, 7 and 8.
     pub(crate) fn check_begin<V: Kind>(
         &self,
         table: &Table<'_, V>,
         process: usize,
     ) -> Result<(), Refusal>
-        ensures { refused_with result ≡ first_ground (begin_grounds (memory self.now table.now.entries.now) process) }
+        ensures { refused_with result ≡ first_ground (begin_grounds (memory self.now (entries_of table.now)) process) }
     {
-        if table.len() < ENTRIES * self.number as usize {
-            return Err(Refusal::ShortTable);
-        }
-        if process == 0 || process > self.number as usize {
-            return Err(Refusal::NoProcess);
-        }
-        let Place::Closed = self.processes[process - 1].place else {
+        let Place::Closed = self.known(table, process)?.place else {
             return Err(Refusal::AlreadyOpen);
         };
         if remembered(&self.processes, process) {
@@ -78,19 +104,14 @@ impl Store {
         &self,
         table: &Table<'_, V>,
         process: usize,
-    ) -> Result<(), Refusal>
-        ensures { refused_with result ≡ first_ground (step_grounds (memory self.now table.now.entries.now) process) }
+    ) -> Result<Process, Refusal>
+        ensures refusal { refused_with result ≡ first_ground (step_grounds (memory self.now (entries_of table.now)) process) }
+        ensures record { IfOk result (λ q. q ≡ process_def (memory self.now (entries_of table.now)) process) }
     {
-        if table.len() < ENTRIES * self.number as usize {
-            return Err(Refusal::ShortTable);
-        }
-        if process == 0 || process > self.number as usize {
-            return Err(Refusal::NoProcess);
-        }
-        match self.processes[process - 1].place {
-            Place::Closed => Err(Refusal::NotOpen),
+        let found = self.opened(table, process)?;
+        match found.place {
             Place::Idle => Err(Refusal::NotUnderWay),
-            _ => Ok(()),
+            _ => Ok(found),
         }
     }
 
@@ -99,18 +120,13 @@ impl Store {
         &self,
         table: &Table<'_, V>,
         process: usize,
-    ) -> Result<(), Refusal>
-        ensures { refused_with result ≡ first_ground (operation_grounds (memory self.now table.now.entries.now) process) }
+    ) -> Result<Process, Refusal>
+        ensures refusal { refused_with result ≡ first_ground (operation_grounds (memory self.now (entries_of table.now)) process) }
+        ensures record { IfOk result (λ q. q ≡ process_def (memory self.now (entries_of table.now)) process) }
     {
-        if table.len() < ENTRIES * self.number as usize {
-            return Err(Refusal::ShortTable);
-        }
-        if process == 0 || process > self.number as usize {
-            return Err(Refusal::NoProcess);
-        }
-        match self.processes[process - 1].place {
-            Place::Closed => Err(Refusal::NotOpen),
-            Place::Idle => Ok(()),
+        let found = self.opened(table, process)?;
+        match found.place {
+            Place::Idle => Ok(found),
             _ => Err(Refusal::UnderWay),
         }
     }
@@ -123,7 +139,7 @@ impl Store {
         process: usize,
         item: usize,
     ) -> Result<(), Refusal>
-        ensures { refused_with result ≡ item_refusal (state (B.cells bank.now) self.now table.now.entries.now) process item }
+        ensures { refused_with result ≡ item_refusal (state (B.cells bank.now) self.now (entries_of table.now)) process item }
     {
         self.check_operation(table, process)?;
         if item >= bank.items() || item >= MOST_ITEMS {
@@ -140,16 +156,12 @@ impl Store {
         processes: usize,
         life: u64,
     ) -> Result<(), Refusal>
-        ensures { refused_with result ≡ first_ground (set_up_grounds (state (B.cells bank.now) self.now table.now.entries.now) processes life) }
+        ensures { refused_with result ≡ first_ground (set_up_grounds (state (B.cells bank.now) self.now (entries_of table.now)) processes life) }
     {
-        let items = bank.items();
-        if items < 1
-            || items > MOST_ITEMS
-            || processes < 1
-            || processes > MOST_PROCESSES as usize
-            || life < 1
-            || life > MOST_SEQUENCE
-        {
+        let within = (1..=MOST_ITEMS).contains(&bank.items())
+            && (1..=MOST_PROCESSES as usize).contains(&processes)
+            && (1..=MOST_SEQUENCE).contains(&life);
+        if !within {
             return Err(Refusal::OutsideLimits);
         }
         if table.len() < ENTRIES * processes {
@@ -160,21 +172,23 @@ impl Store {
 
     // The item's entry in the write set of an owner that has committed.
     fn owned<V: Kind>(&self, table: &Table<'_, V>, owner: u8, item: u8) -> Option<Entry<V>>
-        ensures { result ≡ owned_def V.blank (memory self.now table.now.entries.now) owner item }
+        ensures { result ≡ owned_def V.blank (memory self.now (entries_of table.now)) owner item }
     {
-        if owner == 0 || owner > self.number {
-            return None;
-        }
-        let process = self.processes[owner as usize - 1];
-        match process.status {
-            Status::Committed => table.in_writes(owner, process.sizes, item),
+        match self.record(owner as usize) {
+            Some(
+                Process {
+                    status: Status::Committed,
+                    sizes,
+                    ..
+                },
+            ) => table.task(owner, sizes).find(Part::Writes, item),
             _ => None,
         }
     }
 
     // The entry of the remembered owner, where the row asks for it.
     pub(crate) fn recalled<V: Kind>(&self, table: &Table<'_, V>, place: Place) -> Option<Entry<V>>
-        ensures { result ≡ recalled_def V.blank (memory self.now table.now.entries.now) place }
+        ensures { result ≡ recalled_def V.blank (memory self.now (entries_of table.now)) place }
     {
         match place {
             Place::R5 { item, lock } | Place::L3 { item, lock } => self.owned(
