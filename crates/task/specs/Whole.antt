@@ -1,15 +1,17 @@
 -- What a task's whole transaction leaves: of the state, and to the task.
 use Rattle.std.specs.Prelude.{◌≡◌, ℕ, ◌<◌, zero, suc, Bool, true, false, cond, Some, None, Ok, Err, Option, Result}
 use Rattle.store.specs.Calls.{begin, write, try_commit, abort, step}
-use Rattle.store.specs.Endings.{ending_of}
+use Rattle.store.specs.Endings.{ended_in}
 use Rattle.store.specs.Model.{State, Outcome}
 use Rattle.process.specs.Tells.{Told, done, going, waiting, value, committed, aborted, refused}
 use Rattle.store.specs.Tells.{refusal_number}
 use Rattle.store.specs.declared.stored.Store.{Store}
-use Rattle.ticket.specs.declared.closing.ClosingTicket.{ClosingTicket}
+use Rattle.ticket.specs.declared.ticket.Closing as stage
+use Rattle.ticket.specs.declared.ticket.Ticket.{Ticket}
 use Rattle.ticket.specs.declared.open.Refused.{Refused}
-use Rattle.task.specs.declared.Left.{Left}
-use Rattle.task.specs.declared.Left.TheVariants.{NotBegun, Ended, Open, Closing}
+use Rattle.task.specs.declared.Unfinished.{Unfinished}
+use Rattle.task.specs.declared.Unfinished.TheVariants.{NotBegun, Open, Closing}
+use Rattle.store.specs.declared.answer.Ending.{Ending}
 
 -- which call of the transaction was refused, if one was that the task cannot go on without, and by which number
 pub data Stop : Type 0 where
@@ -28,7 +30,7 @@ stop_close None = nowhere
 stop_close (Some n) = at_close n
 
 -- which hands the ticket back
-abbrev pub stop_closed : Result ClosingTicket Refused → Stop
+abbrev pub stop_closed : Result (Ticket stage.Closing) Refused → Stop
 stop_closed (Ok t) = nowhere
 stop_closed (Err e) = at_close (refusal_number e.refusal)
 
@@ -59,7 +61,7 @@ module _ {V : Type 0} (blank : V) where
   stepped p (suc n) s = (step blank (stepped p n s) p).after
 
   -- a closing ticket steps on; one that was handed back does not
-  abbrev pub stepped_by : Result ClosingTicket Refused → ℕ → State V → State V
+  abbrev pub stepped_by : Result (Ticket stage.Closing) Refused → ℕ → State V → State V
   stepped_by (Ok t) n s = stepped t.process n s
   stepped_by (Err e) n s = s
 
@@ -88,15 +90,15 @@ module _ {V : Type 0} (blank : V) where
   stop_put p i v s = stop_begin (refused_by (begin blank s p).tells) (stop_write p (write blank (begin blank s p).after p i v))
 
 -- the refusal that is left to the task
-abbrev pub stop_left : Left → Stop
-stop_left (NotBegun r) = at_begin (refusal_number r)
-stop_left (Ended e) = nowhere
-stop_left (Open e) = at_close (refusal_number e.refusal)
-stop_left (Closing t) = nowhere
+abbrev pub stop_left : Result Ending Unfinished → Stop
+stop_left (Ok e) = nowhere
+stop_left (Err (NotBegun r)) = at_begin (refusal_number r)
+stop_left (Err (Open e)) = at_close (refusal_number e.refusal)
+stop_left (Err (Closing t)) = nowhere
 
 -- a ticket that is left is the process's, and not that of no process; and the latest transaction has ended so, or not yet
-abbrev pub Leaves : Left → ℕ → Store → Type 0
-Leaves (NotBegun r) p st = Unit {0}
-Leaves (Ended e) p st = ending_of st.processes st.number p ≡ Some e
-Leaves (Open e) p st = (e.ticket.process ≡ p) × (0 < p)
-Leaves (Closing t) p st = (t.process ≡ p) × (0 < p) × (ending_of st.processes st.number p ≡ None)
+abbrev pub Leaves : Result Ending Unfinished → ℕ → Store → Type 0
+Leaves (Ok e) p st = ended_in st p ≡ Some e
+Leaves (Err (NotBegun r)) p st = Unit {0}
+Leaves (Err (Open e)) p st = (e.ticket.process ≡ p) × (0 < p)
+Leaves (Err (Closing t)) p st = (t.process ≡ p) × (0 < p) × (ended_in st p ≡ None)

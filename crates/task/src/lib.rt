@@ -2,26 +2,50 @@
 #![tactic(auto)]
 
 ghost use Rattle.std.specs.Prelude.{◌≡◌, ◌<◌};
+ghost use Rattle.table.specs.Lent.{entries_of, place_of};
 ghost use Rattle.store.specs.Calls.{write as write_def};
 ghost use Rattle.store.specs.Model.{state};
 ghost use Rattle.ticket.specs.Tickets.{holder_of};
 ghost use Rattle.task.specs.Whole.{stepped, stepped_by, after_write, put as put_def, stop_left, stop_closed, stop_write, stop_put, Leaves};
+ghost use Rattle.task.specs.declared.Unfinished.TheVariants.{NotBegun, Open, Closing};
 
 use bank::Bank;
 use store::{Ending, Refusal, Store};
 use table::Table;
-use ticket::{ClosingTicket, Finished, OpenTicket, Refused, Ticket};
+use ticket::{ClosingTicket, OpenTicket, Refused};
 
-/// What is left of a transaction that a task tried.
-pub enum Left {
+/// What is left of a transaction that a task tried and that did not end.
+pub enum Unfinished {
     /// Nothing: its begin was refused.
     NotBegun(Refusal),
-    /// Nothing: it ended so.
-    Ended(Ending),
     /// An open ticket: its try-commit, or its abort, was refused.
     Open(Refused),
     /// A closing ticket: the steps did not suffice.
     Closing(ClosingTicket),
+}
+
+impl From<Refusal> for Unfinished {
+    ghost from_gives = { λ refusal left. left ≡ NotBegun refusal };
+
+    fn from(refusal: Refusal) -> Unfinished {
+        Unfinished::NotBegun(refusal)
+    }
+}
+
+impl From<Refused> for Unfinished {
+    ghost from_gives = { λ refused left. left ≡ Open refused };
+
+    fn from(refused: Refused) -> Unfinished {
+        Unfinished::Open(refused)
+    }
+}
+
+impl From<ClosingTicket> for Unfinished {
+    ghost from_gives = { λ ticket left. left ≡ Closing ticket };
+
+    fn from(ticket: ClosingTicket) -> Unfinished {
+        Unfinished::Closing(ticket)
+    }
 }
 
 /// Writes one item in a transaction of its own, with so many steps for the commit.
@@ -34,17 +58,15 @@ pub fn put<B: Bank>(
     item: usize,
     value: B::Value,
     steps: u32,
-) -> Left
-    ensures exact { state (B.cells bank.new) store.new table.new.entries.now ≡ put_def B.Value.blank process item value steps (state (B.cells bank.old) store.old table.old.entries.now) }
-    ensures stop { stop_left result ≡ stop_put B.Value.blank process item value (state (B.cells bank.old) store.old table.old.entries.now) }
+) -> Result<Ending, Unfinished>
+    ensures exact { state (B.cells bank.new) store.new (entries_of table.new) ≡ put_def B.Value.blank process item value steps (state (B.cells bank.old) store.old (entries_of table.old)) }
+    ensures stop { stop_left result ≡ stop_put B.Value.blank process item value (state (B.cells bank.old) store.old (entries_of table.old)) }
     ensures left { Leaves result process store.new }
     ensures bank { B.places bank.new ≡ B.places bank.old }
-    ensures table { table.new.entries.ghost_name ≡ table.old.entries.ghost_name }
+    ensures table { place_of table.new ≡ place_of table.old }
 {
-    match OpenTicket::begin(store, bank, table, process) {
-        Ok(ticket) => put_open(ticket, store, bank, table, item, value, steps),
-        Err(refusal) => Left::NotBegun(refusal),
-    }
+    let ticket = OpenTicket::begin(store, bank, table, process)?;
+    put_open(ticket, store, bank, table, item, value, steps)
 }
 
 // Writes one item, and commits, or aborts where the write is refused.
@@ -56,13 +78,13 @@ fn put_open<B: Bank>(
     item: usize,
     value: B::Value,
     steps: u32,
-) -> Left
+) -> Result<Ending, Unfinished>
     requires { 0 < ticket.process }
-    ensures exact { state (B.cells bank.new) store.new table.new.entries.now ≡ after_write B.Value.blank ticket.process steps (write_def B.Value.blank (state (B.cells bank.old) store.old table.old.entries.now) ticket.process item value) }
-    ensures stop { stop_left result ≡ stop_write B.Value.blank ticket.process (write_def B.Value.blank (state (B.cells bank.old) store.old table.old.entries.now) ticket.process item value) }
+    ensures exact { state (B.cells bank.new) store.new (entries_of table.new) ≡ after_write B.Value.blank ticket.process steps (write_def B.Value.blank (state (B.cells bank.old) store.old (entries_of table.old)) ticket.process item value) }
+    ensures stop { stop_left result ≡ stop_write B.Value.blank ticket.process (write_def B.Value.blank (state (B.cells bank.old) store.old (entries_of table.old)) ticket.process item value) }
     ensures left { Leaves result ticket.process store.new }
     ensures bank { B.places bank.new ≡ B.places bank.old }
-    ensures table { table.new.entries.ghost_name ≡ table.old.entries.ghost_name }
+    ensures table { place_of table.new ≡ place_of table.old }
 {
     match ticket.write(store, bank, table, item, value) {
         Ok(_) => close(
@@ -83,23 +105,17 @@ fn close<B: Bank>(
     bank: &mut B,
     table: &mut Table<'_, B::Value>,
     steps: u32,
-) -> Left
+) -> Result<Ending, Unfinished>
     requires { 0 < holder_of closed }
-    ensures exact { state (B.cells bank.new) store.new table.new.entries.now ≡ stepped_by B.Value.blank closed steps (state (B.cells bank.old) store.old table.old.entries.now) }
+    ensures exact { state (B.cells bank.new) store.new (entries_of table.new) ≡ stepped_by B.Value.blank closed steps (state (B.cells bank.old) store.old (entries_of table.old)) }
     ensures stop { stop_left result ≡ stop_closed closed }
     ensures left { Leaves result (holder_of closed) store.new }
     ensures bank { B.places bank.new ≡ B.places bank.old }
-    ensures table { table.new.entries.ghost_name ≡ table.old.entries.ghost_name }
+    ensures table { place_of table.new ≡ place_of table.old }
 {
-    let ticket = match closed {
-        Ok(ticket) => ticket,
-        Err(refused) => return Left::Open(refused),
-    };
+    let ticket = closed?;
     run(&ticket, store, bank, table, steps);
-    match ticket.finish(store) {
-        Finished::Ended(ending) => Left::Ended(ending),
-        Finished::NotYet(ticket) => Left::Closing(ticket),
-    }
+    Ok(ticket.finish(store)?)
 }
 
 // Runs so many steps.
@@ -110,9 +126,9 @@ fn run<B: Bank>(
     table: &mut Table<'_, B::Value>,
     steps: u32,
 )
-    ensures exact { state (B.cells bank.new) store.new table.new.entries.now ≡ stepped B.Value.blank ticket.now.process steps (state (B.cells bank.old) store.old table.old.entries.now) }
+    ensures exact { state (B.cells bank.new) store.new (entries_of table.new) ≡ stepped B.Value.blank ticket.now.process steps (state (B.cells bank.old) store.old (entries_of table.old)) }
     ensures bank { B.places bank.new ≡ B.places bank.old }
-    ensures table { table.new.entries.ghost_name ≡ table.old.entries.ghost_name }
+    ensures table { place_of table.new ≡ place_of table.old }
 {
     for _done in 0..steps {
         let _ = ticket.step(store, bank, table);

@@ -4,11 +4,10 @@ use Rattle.process.specs.Tells.{Told, going, refused}
 use Rattle.store.specs.Tells.{refusal_number}
 use Rattle.store.specs.declared.answer.Ending.{Ending}
 use Rattle.store.specs.declared.answer.Refusal.{Refusal}
-use Rattle.ticket.specs.declared.closing.ClosingTicket.{ClosingTicket}
-use Rattle.ticket.specs.declared.closing.Finished.{Finished}
-use Rattle.ticket.specs.declared.closing.Finished.TheVariants.{Ended, NotYet}
-use Rattle.ticket.specs.declared.open.OpenTicket.{OpenTicket}
 use Rattle.ticket.specs.declared.open.Refused.{Refused}
+use Rattle.ticket.specs.declared.ticket.Closing.{Closing}
+use Rattle.ticket.specs.declared.ticket.Open.{Open}
+use Rattle.ticket.specs.declared.ticket.Ticket.{Ticket}
 
 module _ {V : Type 0} where
   -- a call that tells t if it is accepted
@@ -17,26 +16,26 @@ module _ {V : Type 0} where
   told_as t (Err r) = refused (refusal_number r)
 
   -- a ticket is closing where the try-commit or the abort is under way
-  abbrev pub closing_told : Result ClosingTicket Refused → Told V
+  abbrev pub closing_told : Result (Ticket Closing) Refused → Told V
   closing_told (Ok t) = going
   closing_told (Err e) = refused (refusal_number e.refusal)
 
 -- the ticket, if there is one, is the process's, and not that of no process
-abbrev pub Begun : Result OpenTicket Refusal → ℕ → Type 0
+abbrev pub Begun : Result (Ticket Open) Refusal → ℕ → Type 0
 Begun (Ok t) p = (t.process ≡ p) × (0 < p)
 Begun (Err r) p = Unit {0}
 
 -- whose the ticket is, the closing one or the open one that was handed back
-abbrev pub holder_of : Result ClosingTicket Refused → ℕ
+abbrev pub holder_of : Result (Ticket Closing) Refused → ℕ
 holder_of (Ok t) = t.process
 holder_of (Err e) = e.ticket.process
 
 -- how the transaction ended, if it did
-abbrev pub ended : Finished → Option Ending
-ended (Ended e) = Some e
-ended (NotYet t) = None
+abbrev pub ended : Result Ending (Ticket Closing) → Option Ending
+ended (Ok e) = Some e
+ended (Err t) = None
 
 -- the ticket, if it is handed back, is the process's
-abbrev pub Back : Finished → ℕ → Type 0
-Back (Ended e) p = Unit {0}
-Back (NotYet t) p = t.process ≡ p
+abbrev pub Back : Result Ending (Ticket Closing) → ℕ → Type 0
+Back (Ok e) p = Unit {0}
+Back (Err t) p = t.process ≡ p

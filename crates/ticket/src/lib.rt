@@ -4,11 +4,10 @@
 //! That is spent by `finish`, once the transaction has ended. No ticket may be let go in another way.
 #![tactic(auto)]
 
-mod calls;
 pub mod closing;
 pub mod open;
-pub mod ticket_trait;
+pub mod ticket;
 
-pub use closing::{ClosingTicket, Finished};
+pub use closing::ClosingTicket;
 pub use open::{OpenTicket, Refused};
-pub use ticket_trait::Ticket;
+pub use ticket::{Closing, Open, Stage, Ticket};
