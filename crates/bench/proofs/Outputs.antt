@@ -1,20 +1,33 @@
 -- One line more of a script, and the memory that a played script leaves.
-use Rattle.std.proofs.Common.{◌≡◌, ℕ, ◌+◌, List, [], ◌∷◌, ◌++◌, take, refl, ap, sym, subst, ◌∙◌, append_assoc}
+use Rattle.std.proofs.Common.{◌≡◌, ℕ, ◌+◌, ◌≤◌, Bool, true, false, cond, arith, length, List, [], ◌∷◌, ◌++◌, take, refl, ap, sym, subst, ◌∙◌, append_assoc}
 use Rattle.bank.specs.declared.record.Record.{Record}
 use Rattle.table.specs.declared.entry.Entry.{Entry}
-use Rattle.script.specs.Grammar.{lines_of}
+use Rattle.script.specs.Grammar.{lines_of, is_line_feed, onto}
 use Rattle.store.specs.Model.{State}
-use Rattle.bench.specs.Plays.{line_turn, lines_after, printed, started, script_lines, Reaches, Holds, HoldsSome}
+use Rattle.bench.specs.Plays.{line_turn, lines_after, printed, most_input, started, script_lines, Reaches, Holds, HoldsSome}
 use Rattle.bench.specs.Texts.{line_text}
+
+fewer : (b : ℕ) (ls : List (List ℕ)) (n : ℕ) → length ls ≤ n → length (onto b ls) ≤ n + 1
+fewer b [] n h = omega (arith, h)
+fewer b (l ∷ ls) n h = omega (arith, h)
+
+short_one : (b n : ℕ) (ls : List (List ℕ)) (t : Bool) → length ls ≤ n → length (cond t ([] ∷ ls) (onto b ls)) ≤ n + 1
+short_one b n ls true h = omega (arith, h)
+short_one b n ls false h = fewer b ls n h
+
+-- an input has no more lines than bytes
+pub lines_short : (s : List ℕ) → length (lines_of s) ≤ length s
+lines_short [] = omega arith
+lines_short (b ∷ s) = omega (arith, short_one b (length s) (lines_of s) (is_line_feed b) (lines_short s))
 
 module _ {V : Type 0} (blank : V) (pack : V → ℕ) (unpack : ℕ → V) where
   -- what is printed so far, and what the lines left will print, make up the whole
-  pub line_more : (s t : State V) (n : ℕ) (left line rest out new all : List ℕ) → lines_of left ≡ line ∷ lines_of rest
-      → t ≡ (line_turn blank pack unpack s line).after → new ≡ out ++ line_text n (line_turn blank pack unpack s line).tells
-      → out ++ printed blank pack unpack s n (lines_of left) ≡ all → new ++ printed blank pack unpack t (n + 1) (lines_of rest) ≡ all
-  line_more s t n left line rest out new all cut played written before =
-      (λ i. written i ++ printed blank pack unpack (played i) (n + 1) (lines_of rest))
-      ∙ append_assoc out (line_text n (line_turn blank pack unpack s line).tells) (printed blank pack unpack (line_turn blank pack unpack s line).after (n + 1) (lines_of rest))
+  pub line_more : (s t : State V) (n i m : ℕ) (left rest : List (List ℕ)) (line out new all : List ℕ) → left ≡ line ∷ rest → i ≡ n → m ≡ n + 1
+      → t ≡ (line_turn blank pack unpack s line).after → new ≡ out ++ line_text i (line_turn blank pack unpack s line).tells
+      → out ++ printed blank pack unpack s n left ≡ all → new ++ printed blank pack unpack t m rest ≡ all
+  line_more s t n i m left rest line out new all cut same next played written before =
+      (λ j. (written ∙ ap (λ k. out ++ line_text k (line_turn blank pack unpack s line).tells) same) j ++ printed blank pack unpack (played j) (next j) rest)
+      ∙ append_assoc out (line_text n (line_turn blank pack unpack s line).tells) (printed blank pack unpack (line_turn blank pack unpack s line).after (n + 1) rest)
       ∙ ap (λ (ls : List (List ℕ)). out ++ printed blank pack unpack s n ls) (sym cut)
       ∙ before
 
@@ -37,7 +50,7 @@ module _ {V : Type 0} (blank : V) (pack : V → ℕ) (unpack : ℕ → V) where
 
 module _ {V : Type 0} (blank : V) (pack : V → ℕ) (unpack : ℕ → V) (cs : List (Record V)) (es : List (Entry V)) (input bytes : List ℕ) (after t : State V) where
   -- what the first lines after set-up leave in the memory that was lent
-  pub holds_some : after ≡ started cs es → bytes ≡ take 65536 input → Reaches blank pack unpack after (lines_of bytes) t
+  pub holds_some : after ≡ started cs es → bytes ≡ take most_input input → Reaches blank pack unpack after (lines_of bytes) t
       → (cs' : List (Record V)) (es' : List (Entry V)) → cs' ≡ t.cells → es' ≡ t.memory.entries → HoldsSome blank pack unpack cs es input cs' es'
   holds_some e b r cs' es' c d =
       record {
@@ -49,7 +62,7 @@ module _ {V : Type 0} (blank : V) (pack : V → ℕ) (unpack : ℕ → V) (cs : 
       }
 
   -- and what all lines leave
-  pub holds_all : after ≡ started cs es → bytes ≡ take 65536 input → t ≡ lines_after blank pack unpack after (lines_of bytes)
+  pub holds_all : after ≡ started cs es → bytes ≡ take most_input input → t ≡ lines_after blank pack unpack after (lines_of bytes)
       → (cs' : List (Record V)) (es' : List (Entry V)) → cs' ≡ t.cells → es' ≡ t.memory.entries → Holds (lines_after blank pack unpack (started cs es) (script_lines input)) cs' es'
   holds_all e b r cs' es' c d =
       let all : t ≡ lines_after blank pack unpack (started cs es) (script_lines input) = r ∙ (λ i. lines_after blank pack unpack (e i) (lines_of (b i))) in

@@ -1,5 +1,5 @@
 -- What the player tells of a line: what the store told, or refusal 12 for what is no call line.
-use Rattle.std.specs.Prelude.{◌≡◌, ℕ, Ok, Err, Result}
+use Rattle.std.specs.Prelude.{◌≡◌, ℕ, List, ◌++◌, Ok, Err, Result, codes, decimal}
 use Rattle.process.specs.Tells.{Told, refused, answer_told}
 use Rattle.store.specs.Tells.{refusal_number}
 use Rattle.process.specs.declared.answer.Answer.{Answer}
@@ -12,6 +12,9 @@ use Rattle.bench.specs.declared.fault.Fault.{Fault}
 abbrev pub cause_number : Cause → ℕ
 cause_number NotACall = 12
 cause_number (Store r) = refusal_number r
+
+abbrev pub fault_text : Fault → List ℕ
+fault_text f = codes "refused " ++ decimal (cause_number f.cause)
 
 abbrev pub store_fault : AtLine → Fault
 store_fault a = record { line = a.line; cause = Store a.refusal }

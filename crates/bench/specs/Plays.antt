@@ -44,14 +44,26 @@ turn t s = record { tells = t; after = s }
 abbrev pub unused : {V : Type 0} → List (Record V) → List (Entry V) → State V
 unused cs es = record { cells = cs; memory = record { processes = replicate most_processes fresh; number = 0; life = 0; entries = es } }
 
--- the lines of a script that are played: those of its first 65,536 bytes
+-- the most bytes of a script that are played
+abbrev pub most_input : ℕ
+most_input = 65536
+
+-- the lines of a script that are played
 abbrev pub script_lines : List ℕ → List (List ℕ)
-script_lines input = lines_of (take 65536 input)
+script_lines input = lines_of (take most_input input)
+
+-- how many processes the player sets up
+abbrev pub player_processes : ℕ
+player_processes = 4
+
+-- how many transactions may be begun
+abbrev pub player_life : ℕ
+player_life = 1000
 
 module _ {V : Type 0} where
-  -- set up with four processes and a life of 1,000
+  -- set up for the player
   abbrev pub started : List (Record V) → List (Entry V) → State V
-  started cs es = (set_up (unused cs es) 4 1000).after
+  started cs es = (set_up (unused cs es) player_processes player_life).after
 
   -- lent records and entries hold what a state says of them
   abbrev pub Holds : State V → List (Record V) → List (Entry V) → Type 0

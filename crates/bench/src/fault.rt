@@ -1,25 +1,27 @@
 //! Why a line of a script was refused.
-ghost use Rattle.std.specs.Prelude.{◌≡◌};
-ghost use Rattle.bench.specs.Faults.{cause_number, store_fault, on_line};
+ghost use Rattle.std.specs.Prelude.{◌≡◌, Some};
+ghost use Rattle.bench.specs.Faults.{cause_number, fault_text, store_fault, on_line};
 
+use std::error::Error;
+use std::fmt;
 use store::Refusal;
 
 /// Why a line was refused: it is no call line, or the store refused its call.
-#[derive(Clone, Copy)]
+#[derive(Clone, Copy, PartialEq, Eq, Debug)]
 pub enum Cause {
     NotACall,
     Store(Refusal),
 }
 
 /// A refused line: its number from 1, and why.
-#[derive(Clone, Copy)]
+#[derive(Clone, Copy, PartialEq, Eq, Debug)]
 pub struct Fault {
     pub line: usize,
     pub cause: Cause,
 }
 
 /// A refusal of the store at a line.
-#[derive(Clone, Copy)]
+#[derive(Clone, Copy, PartialEq, Eq, Debug)]
 pub struct AtLine {
     pub line: usize,
     pub refusal: Refusal,
@@ -37,6 +39,16 @@ impl Cause {
     }
 }
 
+impl fmt::Display for Fault {
+    ghost output = { λ x. Some (fault_text x) };
+
+    fn fmt<W: fmt::Write>(&self, f: &mut fmt::Formatter<W>) -> fmt::Result {
+        write!(f, "refused {}", self.cause.number())
+    }
+}
+
+impl Error for Fault {}
+
 // The store's refusal goes into the fault unchanged.
 impl From<AtLine> for Fault {
     ghost from_gives = { λ a f. f ≡ store_fault a };
@@ -53,8 +65,5 @@ impl From<AtLine> for Fault {
 pub fn at_line<T>(line: usize, res: Result<T, Refusal>) -> Result<T, AtLine>
     ensures { result ≡ on_line line res }
 {
-    match res {
-        Ok(answer) => Ok(answer),
-        Err(refusal) => Err(AtLine { line, refusal }),
-    }
+    res.map_err(|refusal| AtLine { line, refusal })
 }

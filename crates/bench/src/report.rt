@@ -8,14 +8,14 @@ use std::fmt;
 use store::Answer;
 
 /// A line that was played: its number from 1, and what it was answered, with values as words.
-#[derive(Clone, Copy)]
+#[derive(Clone, Copy, PartialEq, Eq, Debug)]
 pub struct Report {
     pub line: usize,
     pub result: Result<Answer<u64>, Fault>,
 }
 
 /// A value by its word: a setting that is a count, or off.
-#[derive(Clone, Copy)]
+#[derive(Clone, Copy, PartialEq, Eq, Debug)]
 pub struct Shown(pub u64);
 
 impl fmt::Display for Shown {
@@ -38,17 +38,11 @@ impl fmt::Display for Report {
             Ok(Answer::Done) => write!(f, "{line} ok"),
             Ok(Answer::Going) => write!(f, "{line} going"),
             Ok(Answer::Waiting) => write!(f, "{line} waiting"),
-            Ok(Answer::Value(word)) => {
-                let value = Shown(word);
-                write!(f, "{line} value {value}")
-            }
+            Ok(Answer::Value(word)) => write!(f, "{line} value {}", Shown(word)),
             Ok(Answer::Committed) => write!(f, "{line} committed"),
             Ok(Answer::Aborted(None)) => write!(f, "{line} aborted"),
             Ok(Answer::Aborted(Some(item))) => write!(f, "{line} aborted {item}"),
-            Err(fault) => {
-                let number = fault.cause.number();
-                write!(f, "{line} refused {number}")
-            }
+            Err(fault) => write!(f, "{line} {fault}"),
         }
     }
 }

@@ -1,5 +1,6 @@
 //! A whole script.
 ghost use Rattle.std.specs.Prelude.{◌≡◌, ◌++◌, take, IfOk, string_bytes, OnOk};
+ghost use Rattle.table.specs.Lent.{entries_of, place_of};
 ghost use Rattle.script.specs.Grammar.{lines_of};
 ghost use Rattle.store.specs.Model.{state};
 ghost use Rattle.bench.specs.Faults.{line_told};
@@ -12,46 +13,39 @@ use crate::turn::play_line;
 use bank::{Bank, Record};
 use kinds::Kind;
 use record_bank::RecordBank;
-use script::next_line;
-use std::alloc::Global;
-use std::fmt;
+use script::Lines;
+use std::alloc::{AllocError, Global};
 use store::{Answer, Store};
 use table::{Entry, Table};
 
-// The most bytes of a script that are played.
-const MOST_INPUT: usize = 65_536;
+/// The most bytes of a script that are played.
+pub const MOST_INPUT: usize = 65_536;
 
-// How many processes the player sets up.
-const PROCESSES: usize = 4;
+/// How many processes the player sets up.
+pub const PROCESSES: usize = 4;
 
-// How many transactions may be begun.
-const LIFE: u64 = 1_000;
+/// How many transactions may be begun.
+pub const LIFE: u64 = 1_000;
 
 // Adds what is printed of a line.
-fn report(out: &mut String, line: usize, res: Result<Answer<u64>, Fault>) -> fmt::Result
+fn report(out: &mut String, line: usize, res: Result<Answer<u64>, Fault>) -> Result<(), AllocError>
     ensures { OnOk result (string_bytes out.new ≡ string_bytes out.old ++ line_text line (line_told res)) }
 {
-    let report = Report { line, result: res };
-    writeln!(out, "{report}")?;
-    Ok(())
+    writeln!(out, "{}", Report { line, result: res })
 }
 
-// The part of a script that is played.
-fn first_bytes(input: &[u8]) -> &[u8]
-    ensures { result.now ≡ take 65536 input.now }
+// At most the first `most` bytes of an input.
+fn first_bytes(input: &[u8], most: usize) -> &[u8]
+    ensures { result.now ≡ take most input.now }
 {
-    if input.len() > MOST_INPUT {
-        &input[0..MOST_INPUT]
-    } else {
-        input
-    }
+    input.get(..most).unwrap_or(input)
 }
 
 // A store that the player sets up over a bank and a table.
 fn start<B: Bank>(bank: &mut B, table: &mut Table<'_, B::Value>) -> Store
-    ensures state { state (B.cells bank.new) result table.new.entries.now ≡ started (B.cells bank.old) table.old.entries.now }
+    ensures state { state (B.cells bank.new) result (entries_of table.new) ≡ started (B.cells bank.old) (entries_of table.old) }
     ensures bank { B.places bank.new ≡ B.places bank.old }
-    ensures table { table.new.entries.ghost_name ≡ table.old.entries.ghost_name }
+    ensures table { place_of table.new ≡ place_of table.old }
 {
     let mut store = Store::new();
     let _ = store.set_up(bank, table, PROCESSES, LIFE);
@@ -66,11 +60,11 @@ fn play_next<B: Bank>(
     table: &mut Table<'_, B::Value>,
     number: usize,
     line: &[u8],
-) -> fmt::Result
-    ensures text { OnOk result (string_bytes out.new ≡ string_bytes out.old ++ line_text number (line_turn B.Value.blank B.Value.packing B.Value.unpacking (state (B.cells bank.old) store.old table.old.entries.now) line.now).tells) }
-    ensures state { state (B.cells bank.new) store.new table.new.entries.now ≡ (line_turn B.Value.blank B.Value.packing B.Value.unpacking (state (B.cells bank.old) store.old table.old.entries.now) line.now).after }
+) -> Result<(), AllocError>
+    ensures text { OnOk result (string_bytes out.new ≡ string_bytes out.old ++ line_text number (line_turn B.Value.blank B.Value.packing B.Value.unpacking (state (B.cells bank.old) store.old (entries_of table.old)) line.now).tells) }
+    ensures state { state (B.cells bank.new) store.new (entries_of table.new) ≡ (line_turn B.Value.blank B.Value.packing B.Value.unpacking (state (B.cells bank.old) store.old (entries_of table.old)) line.now).after }
     ensures bank { B.places bank.new ≡ B.places bank.old }
-    ensures table { table.new.entries.ghost_name ≡ table.old.entries.ghost_name }
+    ensures table { place_of table.new ≡ place_of table.old }
 {
     let result = play_line(store, bank, table, number, line);
     report(out, number, result)
@@ -83,22 +77,18 @@ pub fn play_lines<B: Bank>(
     bank: &mut B,
     table: &mut Table<'_, B::Value>,
     input: &[u8],
-) -> Result<String, fmt::Error>
-    ensures text { IfOk result (λ s. string_bytes s ≡ printed B.Value.blank B.Value.packing B.Value.unpacking (state (B.cells bank.old) store.old table.old.entries.now) 1 (lines_of input.now)) }
-    ensures whole { OnOk result (state (B.cells bank.new) store.new table.new.entries.now ≡ lines_after B.Value.blank B.Value.packing B.Value.unpacking (state (B.cells bank.old) store.old table.old.entries.now) (lines_of input.now)) }
+) -> Result<String, AllocError>
+    ensures text { IfOk result (λ s. string_bytes s ≡ printed B.Value.blank B.Value.packing B.Value.unpacking (state (B.cells bank.old) store.old (entries_of table.old)) 1 (lines_of input.now)) }
+    ensures whole { OnOk result (state (B.cells bank.new) store.new (entries_of table.new) ≡ lines_after B.Value.blank B.Value.packing B.Value.unpacking (state (B.cells bank.old) store.old (entries_of table.old)) (lines_of input.now)) }
 
     // Where memory for what is printed runs out, the first lines were played, and no others.
-    ensures part { Reaches B.Value.blank B.Value.packing B.Value.unpacking (state (B.cells bank.old) store.old table.old.entries.now) (lines_of input.now) (state (B.cells bank.new) store.new table.new.entries.now) }
+    ensures part { Reaches B.Value.blank B.Value.packing B.Value.unpacking (state (B.cells bank.old) store.old (entries_of table.old)) (lines_of input.now) (state (B.cells bank.new) store.new (entries_of table.new)) }
     ensures bank { B.places bank.new ≡ B.places bank.old }
-    ensures table { table.new.entries.ghost_name ≡ table.old.entries.ghost_name }
+    ensures table { place_of table.new ≡ place_of table.old }
 {
     let mut out = String::new(heap);
-    let mut number = 1usize;
-    let mut left = input;
-    while let Some(cut) = next_line(left) {
-        play_next(&mut out, store, bank, table, number, cut.line)?;
-        number += 1;
-        left = cut.rest;
+    for (i, line) in Lines::new(input).enumerate() {
+        play_next(&mut out, store, bank, table, i + 1, line)?;
     }
     Ok(out)
 }
@@ -109,7 +99,7 @@ pub fn play<V: Kind>(
     records: &mut [Record<V>],
     entries: &mut [Entry<V>],
     input: &[u8],
-) -> Result<String, fmt::Error>
+) -> Result<String, AllocError>
     ensures text { IfOk result (λ s. string_bytes s ≡ played V.blank V.packing V.unpacking records.old entries.old input.now) }
     ensures whole { OnOk result (Holds (lines_after V.blank V.packing V.unpacking (started records.old entries.old) (script_lines input.now)) records.new entries.new) }
 
@@ -119,5 +109,11 @@ pub fn play<V: Kind>(
     let mut bank = RecordBank::new(records);
     let mut table = Table::new(entries);
     let mut store = start(&mut bank, &mut table);
-    play_lines(heap, &mut store, &mut bank, &mut table, first_bytes(input))
+    play_lines(
+        heap,
+        &mut store,
+        &mut bank,
+        &mut table,
+        first_bytes(input, MOST_INPUT),
+    )
 }

@@ -1,5 +1,6 @@
 //! One line of a script.
 ghost use Rattle.std.specs.Prelude.{◌≡◌};
+ghost use Rattle.table.specs.Lent.{entries_of, place_of};
 ghost use Rattle.store.specs.Model.{state};
 ghost use Rattle.bench.specs.Faults.{line_told, At};
 ghost use Rattle.bench.specs.Plays.{turn as turn_def, line_turn, made};
@@ -19,10 +20,10 @@ fn make<B: Bank>(
     number: usize,
     call: Call<u32>,
 ) -> Result<Answer<u64>, Fault>
-    ensures exact { turn_def (line_told result) (state (B.cells bank.new) store.new table.new.entries.now) ≡ made B.Value.blank B.Value.packing B.Value.unpacking (state (B.cells bank.old) store.old table.old.entries.now) call }
+    ensures exact { turn_def (line_told result) (state (B.cells bank.new) store.new (entries_of table.new)) ≡ made B.Value.blank B.Value.packing B.Value.unpacking (state (B.cells bank.old) store.old (entries_of table.old)) call }
     ensures line { At number result }
     ensures bank { B.places bank.new ≡ B.places bank.old }
-    ensures table { table.new.entries.ghost_name ≡ table.old.entries.ghost_name }
+    ensures table { place_of table.new ≡ place_of table.old }
 {
     let answer = at_line(number, store.call(bank, table, with_value(call)))?;
     Ok(with_word(answer))
@@ -36,10 +37,10 @@ pub fn play_line<B: Bank>(
     number: usize,
     line: &[u8],
 ) -> Result<Answer<u64>, Fault>
-    ensures exact { turn_def (line_told result) (state (B.cells bank.new) store.new table.new.entries.now) ≡ line_turn B.Value.blank B.Value.packing B.Value.unpacking (state (B.cells bank.old) store.old table.old.entries.now) line.now }
+    ensures exact { turn_def (line_told result) (state (B.cells bank.new) store.new (entries_of table.new)) ≡ line_turn B.Value.blank B.Value.packing B.Value.unpacking (state (B.cells bank.old) store.old (entries_of table.old)) line.now }
     ensures line { At number result }
     ensures bank { B.places bank.new ≡ B.places bank.old }
-    ensures table { table.new.entries.ghost_name ≡ table.old.entries.ghost_name }
+    ensures table { place_of table.new ≡ place_of table.old }
 {
     let Ok(call) = parse(line) else {
         return Err(Fault {

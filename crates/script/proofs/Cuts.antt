@@ -1,5 +1,5 @@
 -- The first line of an input, and the lines of what follows it.
-use Rattle.std.proofs.Common.{◌≡◌, ℕ, ◌+◌, ◌<◌, Bool, true, false, cond, not, List, [], ◌∷◌, length, take, drop, sym, refl, ap, ◌∙◌, one-add, arith, length-drop}
+use Rattle.std.proofs.Common.{◌≡◌, ℕ, ◌+◌, ◌<◌, Bool, true, false, true≢false, ◌==◌, cond, not, List, [], ◌∷◌, length, take, drop, sym, refl, ap, ◌∙◌, one-add, arith, length-drop}
 use Rattle.std.specs.List.{prefix_len}
 use Rattle.script.specs.Grammar.{onto, lines_of, is_line_feed}
 use Rattle.script.specs.Walk.{in_line}
@@ -24,9 +24,9 @@ pub lines_none : (s : List ℕ) → length s ≡ 0 → lines_of s ≡ []
 lines_none [] e = refl
 lines_none (b ∷ s) e = absurd (omega arith)
 
-pub lines_next : (s line rest : List ℕ) (n : ℕ) → 0 < length s → n ≡ prefix_len in_line s → line ≡ take n s → rest ≡ drop 1 (drop n s) →
+pub lines_next : (s line rest : List ℕ) (n : ℕ) → (length s == 0) ≡ false → n ≡ prefix_len in_line s → line ≡ take n s → rest ≡ drop 1 (drop n s) →
     (lines_of s ≡ line ∷ lines_of rest) × (length rest < length s)
-lines_next [] line rest n h e p q = absurd (omega arith)
+lines_next [] line rest n h e p q = absurd (true≢false h)
 lines_next (b ∷ s) line rest n h e p q =
     let first : CutFirst (b ∷ s) n = rw e (cut_first b s) in (
       first ∙ sym (λ i. p i ∷ lines_of (q i)),

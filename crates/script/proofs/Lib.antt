@@ -1,4 +1,5 @@
 mod Cuts
+mod Digits
 mod Forms
-mod Numbers
+mod Taken
 mod Words

@@ -1,10 +1,9 @@
--- What is taken from a line from left to right: a number behind a space, then another, then the end.
+-- What is taken from a line from left to right: one number after another, each behind one space.
 -- The functions that parse a line state this; that it comes to the calls of the grammar is proved for the whole line.
-use Rattle.std.specs.Prelude.{ℕ, Bool, cond, not, List, [], ◌∷◌, take, drop, Some, None, Option}
+use Rattle.std.specs.Prelude.{ℕ, Bool, cond, not, ◌==◌, List, [], ◌∷◌, length, take, drop, Some, None, Option}
 use Rattle.std.specs.Str.Parse.{digits_value}
 use Rattle.std.specs.List.{prefix_len}
-use Rattle.store.specs.declared.calling.Call.{Call}
-use Rattle.script.specs.Grammar.{is, is_digit, is_line_feed, is_width, Form, no_call, whole, number_then, and_then}
+use Rattle.script.specs.Grammar.{is, is_digit, is_line_feed, is_width, words_of, numbers_of}
 
 abbrev pub in_line : ℕ → Bool
 in_line b = not (is_line_feed b)
@@ -18,17 +17,12 @@ abbrev pub number_first : List ℕ → Option (ℕ × List ℕ)
 number_first [] = None
 number_first (b ∷ s) = cond (is " " b) (digits_first (prefix_len is_digit s) s) None
 
--- x, where nothing follows
-abbrev pub at_end : {X : Type 0} → X → List ℕ → Option X
-at_end x [] = Some x
-at_end x (b ∷ s) = None
+-- the numbers behind a letter or a number: none, or a space and then words that are numbers
+abbrev pub behind : List ℕ → Option (List ℕ)
+behind [] = Some []
+behind (b ∷ s) = cond (is " " b) (numbers_of (words_of s)) None
 
--- a number behind one space, and nothing more
-abbrev pub number_alone : List ℕ → Option ℕ
-number_alone s = and_then (number_first s) (λ p. at_end p.0 p.1)
-
--- the call that a form and what follows its letter make
-abbrev pub walked : Form → List ℕ → Option (Call ℕ)
-walked no_call s = None
-walked (whole x) s = at_end x s
-walked (number_then f) s = and_then (number_first s) (λ p. walked (f p.0) p.1)
+-- the numbers, where there are n of them
+abbrev pub exactly : ℕ → Option (List ℕ) → Option (List ℕ)
+exactly n None = None
+exactly n (Some ns) = cond (length ns == n) (Some ns) None

@@ -1,11 +1,12 @@
 //! A script for the bench player: its lines, and the call that a line is.
 #![tactic(auto)]
 
-ghost use Rattle.std.specs.Prelude.{◌≡◌, ℕ, ◌<◌, ◌≤◌, true, [], ◌∷◌, length, take, drop, Some, None, slice_index};
+ghost use Rattle.std.specs.Prelude.{◌≡◌, ℕ, ◌<◌, ◌≤◌, true, [], ◌∷◌, length, take, drop, Some, None, Ok, Err, slice_index};
 ghost use Rattle.std.specs.List.{prefix_len};
 ghost use Rattle.std.specs.Str.Parse.{digits_value as numeral};
-ghost use Rattle.script.specs.Grammar.{call_of, form_of, is_digit, is_line_feed, is_width, lines_of, or_not_a_call, three, two};
-ghost use Rattle.script.specs.Walk.{at_end, in_line, number_alone, number_first, walked};
+ghost use Rattle.script.specs.Grammar.{and_then, call_of, filled, form_of, is_digit, is_width, lines_of, or_not_a_call};
+ghost use Rattle.script.specs.Lines.{lines_left};
+ghost use Rattle.script.specs.Walk.{behind, exactly, in_line, number_first};
 
 use store::Call;
 
@@ -14,29 +15,17 @@ use store::Call;
 pub struct NotACall;
 
 /// A line, without what ends it, and the input that follows it.
-#[derive(Clone, Copy)]
+#[derive(Clone, Copy, PartialEq, Eq, Debug)]
 pub struct Cut<'a> {
     pub line: &'a [u8],
     pub rest: &'a [u8],
-}
-
-fn is_digit(byte: u8) -> bool
-    ensures { result ≡ is_digit byte }
-{
-    byte >= b'0' && byte <= b'9'
 }
 
 // Whether a number may have `n` digits.
 fn is_width(n: usize) -> bool
     ensures { result ≡ is_width n }
 {
-    n >= 1 && n <= 9
-}
-
-fn is_line_feed(byte: u8) -> bool
-    ensures { result ≡ is_line_feed byte }
-{
-    byte == b'\n'
+    (1..=9).contains(&n)
 }
 
 // How many digits `s` begins with.
@@ -45,25 +34,18 @@ fn leading_digits(s: &[u8]) -> usize
     ensures each { (k : ℕ) → k < result → is_digit (slice_index s.now k) ≡ true }
     ensures within { result ≤ length s.now }
 {
-    for (i, byte) in s.iter().enumerate() {
-        if !is_digit(*byte) {
-            return i;
-        }
-    }
-    s.len()
+    s.iter().take_while(|byte| byte.is_ascii_digit()).count()
 }
 
-// The number that at most nine digits write.
-fn value(digits: &[u8]) -> u32
+// The number that one to nine digits write.
+#[tactic(auto, using(crate::proofs::Digits::text, crate::proofs::Digits::parsed))]
+fn value(digits: &[u8]) -> Option<u32>
     requires each { (k : ℕ) → k < length digits.now → is_digit (slice_index digits.now k) ≡ true }
-    requires few { length digits.now ≤ 9 }
-    ensures { result ≡ numeral 10 digits.now }
+    requires few { (1 ≤ length digits.now) × (length digits.now ≤ 9) }
+    ensures { result ≡ Some (numeral 10 digits.now) }
 {
-    let mut sum = 0u32;
-    for byte in digits {
-        sum = sum * 10 + u32::from(*byte - b'0');
-    }
-    sum
+    let text = str::from_utf8(digits).ok()?;
+    text.parse().ok()
 }
 
 // The number behind one space in front of `s`, and what follows it.
@@ -78,77 +60,65 @@ fn number(s: &[u8]) -> Option<(u32, &[u8])>
         return None;
     }
     let (digits, rest) = rest.split_at(width);
-    Some((value(digits), rest))
+    Some((value(digits)?, rest))
 }
 
-// What was found, where nothing follows it.
-fn alone<T: Copy>(found: T, rest: &[u8]) -> Result<T, NotACall>
-    ensures { result ≡ or_not_a_call (at_end found rest.now) }
+// The numbers that make up `rest`, each behind one space.
+#[tactic(auto, using(crate::proofs::Taken::not_taken, crate::proofs::Taken::all_taken))]
+fn numbers<const N: usize>(rest: &[u8]) -> Option<[u32; N]>
+    ensures { result ≡ exactly N (behind rest.now) }
 {
-    match rest {
-        [] => Ok(found),
-        _ => Err(NotACall),
+    let mut found = [0; N];
+    let mut left = rest;
+    for slot in found.iter_mut() {
+        let (number, rest) = number(left)?;
+        *slot = number;
+        left = rest;
     }
+    left.is_empty().then_some(found)
 }
 
 // The process that follows the letter of a call that takes no more.
 fn process(rest: &[u8]) -> Result<usize, NotACall>
-    ensures { result ≡ or_not_a_call (number_alone rest.now) }
+    ensures { elim result [ Ok p ↦ exactly 1 (behind rest.now) ≡ Some (p ∷ []) | Err e ↦ exactly 1 (behind rest.now) ≡ None ] }
 {
-    let Some((process, rest)) = number(rest) else {
+    let Some(found) = numbers::<1>(rest) else {
         return Err(NotACall);
     };
-    alone(process as usize, rest)
-}
-
-// What follows the letter of a read.
-fn read(rest: &[u8]) -> Result<Call<u32>, NotACall>
-    ensures { result ≡ or_not_a_call (walked (two (λ p i. Call.Read p i)) rest.now) }
-{
-    let Some((process, rest)) = number(rest) else {
-        return Err(NotACall);
-    };
-    let Some((item, rest)) = number(rest) else {
-        return Err(NotACall);
-    };
-    let call = Call::Read {
-        process: process as usize,
-        item: item as usize,
-    };
-    alone(call, rest)
-}
-
-// What follows the letter of a write.
-fn write(rest: &[u8]) -> Result<Call<u32>, NotACall>
-    ensures { result ≡ or_not_a_call (walked (three (λ p i n. Call.Write p i n)) rest.now) }
-{
-    let Some((process, rest)) = number(rest) else {
-        return Err(NotACall);
-    };
-    let Some((item, rest)) = number(rest) else {
-        return Err(NotACall);
-    };
-    let Some((count, rest)) = number(rest) else {
-        return Err(NotACall);
-    };
-    let call = Call::Write {
-        process: process as usize,
-        item: item as usize,
-        value: count,
-    };
-    alone(call, rest)
+    let [process] = found;
+    Ok(process as usize)
 }
 
 // The call that a letter and what follows it are.
+#[tactic(auto, using(crate::proofs::Forms::given, crate::proofs::Forms::no_one, crate::proofs::Forms::no_two, crate::proofs::Forms::no_three))]
 fn call_by(letter: char, rest: &[u8]) -> Result<Call<u32>, NotACall>
-    ensures { result ≡ or_not_a_call (walked (form_of letter) rest.now) }
+    ensures { result ≡ or_not_a_call (and_then (behind rest.now) (filled (form_of letter))) }
 {
     match letter {
         'b' => Ok(Call::Begin {
             process: process(rest)?,
         }),
-        'r' => read(rest),
-        'w' => write(rest),
+        'r' => {
+            let Some(found) = numbers::<2>(rest) else {
+                return Err(NotACall);
+            };
+            let [process, item] = found;
+            Ok(Call::Read {
+                process: process as usize,
+                item: item as usize,
+            })
+        }
+        'w' => {
+            let Some(found) = numbers::<3>(rest) else {
+                return Err(NotACall);
+            };
+            let [process, item, value] = found;
+            Ok(Call::Write {
+                process: process as usize,
+                item: item as usize,
+                value,
+            })
+        }
         'c' => Ok(Call::TryCommit {
             process: process(rest)?,
         }),
@@ -163,6 +133,7 @@ fn call_by(letter: char, rest: &[u8]) -> Result<Call<u32>, NotACall>
 }
 
 /// The call that a line is.
+#[tactic(auto, using(crate::proofs::Forms::no_letter, crate::proofs::Forms::call_behind))]
 pub fn parse(line: &[u8]) -> Result<Call<u32>, NotACall>
     ensures { result ≡ or_not_a_call (call_of line.now) }
 {
@@ -177,12 +148,7 @@ fn line_length(input: &[u8]) -> usize
     ensures count { result ≡ prefix_len in_line input.now }
     ensures within { result ≤ length input.now }
 {
-    for (i, byte) in input.iter().enumerate() {
-        if is_line_feed(*byte) {
-            return i;
-        }
-    }
-    input.len()
+    input.iter().take_while(|byte| **byte != b'\n').count()
 }
 
 // The first `n` bytes, and what follows them and the byte that ends them, if one does.
@@ -192,13 +158,14 @@ fn cut_at(input: &[u8], n: usize) -> Cut<'_>
     ensures rest { result.rest.now ≡ drop 1 (drop n input.now) }
 {
     let (line, rest) = input.split_at(n);
-    match rest.split_first() {
-        Some((_, rest)) => Cut { line, rest },
-        None => Cut { line, rest },
+    Cut {
+        line,
+        rest: rest.get(1..).unwrap_or(rest),
     }
 }
 
 /// The first line of an input, and what follows it; none where there is no line.
+#[tactic(auto, using(crate::proofs::Cuts::lines_none))]
 pub fn next_line(input: &[u8]) -> Option<Cut<'_>>
     ensures { elim result [ Some c ↦ (lines_of input.now ≡ c.line.now ∷ lines_of c.rest.now) × (length c.rest.now < length input.now) | None ↦ lines_of input.now ≡ [] ] }
 {
@@ -206,4 +173,36 @@ pub fn next_line(input: &[u8]) -> Option<Cut<'_>>
         return None;
     }
     Some(cut_at(input, line_length(input)))
+}
+
+/// The lines of an input, one after the other.
+#[derive(Clone, Copy, Debug)]
+pub struct Lines<'a> {
+    rest: &'a [u8],
+}
+
+impl<'a> Lines<'a> {
+    /// The lines of an input, from the first on.
+    pub fn new(input: &'a [u8]) -> Lines<'a>
+        ensures { lines_left result ≡ lines_of input.now }
+    {
+        Lines { rest: input }
+    }
+}
+
+impl<'a> Iterator for Lines<'a> {
+    ghost use Rattle.std.specs.Iterator.{YieldsFirstRef, item_count};
+    ghost use Rattle.script.specs.Lines.{lines_left};
+
+    type Item = &'a [u8];
+
+    ghost next_gives = { YieldsFirstRef lines_left };
+
+    ghost remaining = { item_count lines_left };
+
+    fn next(&mut self) -> Option<&'a [u8]> {
+        let cut = next_line(self.rest)?;
+        self.rest = cut.rest;
+        Some(cut.line)
+    }
 }
