@@ -12,16 +12,8 @@ fn lock(owner: u8, sequence: u64) -> Lock {
     Lock { owner, sequence }
 }
 
-fn record<V: Kind>(value: V) -> Record<V> {
-    Record {
-        value,
-        lock: Lock::free(),
-        count: 0,
-    }
-}
-
 fn has_lock<B: Bank>(rt: &impl Abort, bank: &B, item: usize, owner: u8, sequence: u64) {
-    assert!(rt; bank.read_lock(item).is_same(lock(owner, sequence)));
+    assert_eq!(rt; bank.read_lock(item), lock(owner, sequence));
 }
 
 // Locks, over a bank of two items that are free.
@@ -79,7 +71,7 @@ fn all<B: Bank>(rt: &impl Abort, bank: &mut B, word: u64) {
 
 #[test]
 fn records_of_settings(rt: HostRuntime) {
-    let mut records = [record(Setting::Off); 2];
+    let mut records = [Record::new(Setting::Off); 2];
     all(
         &rt,
         &mut RecordBank::new(&mut records),
@@ -89,7 +81,7 @@ fn records_of_settings(rt: HostRuntime) {
 
 #[test]
 fn records_of_knots(rt: HostRuntime) {
-    let mut records = [record(Knot::blank()); 2];
+    let mut records = [Record::new(Knot::blank()); 2];
     all(
         &rt,
         &mut RecordBank::new(&mut records),
@@ -150,9 +142,9 @@ fn packed_sizes(rt: HostRuntime) {
 #[test]
 fn records_to_words(rt: HostRuntime) {
     let mut records = [
-        record(Setting::Count(1)),
-        record(Setting::Count(2)),
-        record(Setting::Count(3)),
+        Record::new(Setting::Count(1)),
+        Record::new(Setting::Count(2)),
+        Record::new(Setting::Count(3)),
     ];
     let mut words = [0x0100_0000_0000_0001; 6];
     {

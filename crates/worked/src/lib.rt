@@ -4,6 +4,8 @@
 #[cfg(test)]
 mod bank_tests;
 #[cfg(test)]
+mod script_tests;
+#[cfg(test)]
 mod word_tests;
 pub mod words;
 

@@ -104,10 +104,7 @@ fn any_word_is_a_setting(rt: HostRuntime) {
 fn knots_pack(rt: HostRuntime) {
     for (knot, word) in knots() {
         assert_eq!(rt; knot.pack(), word);
-        let back = Knot::unpack(word);
-        assert_eq!(rt; back.angle, knot.angle);
-        assert_eq!(rt; back.offset, knot.offset);
-        assert_eq!(rt; back.time, knot.time);
+        assert_eq!(rt; Knot::unpack(word), knot);
     }
 }
 
