@@ -1,12 +1,10 @@
 //! The same questions put to record and packed banks of both kinds.
-use bank::{Bank, Lock, Record};
+use bank::{Bank, Lock, MOST_SEQUENCE, Record};
 use kinds::{Kind, Knot, Setting};
 use packed_bank::PackedBank;
 use record_bank::RecordBank;
 use std::process::Abort;
 use upkeep::{clear, copy_values};
-
-const MOST_SEQUENCE: u64 = 0xFF_FFFF_FFFF_FFFF;
 
 fn lock(owner: u8, sequence: u64) -> Lock {
     Lock { owner, sequence }

@@ -4,7 +4,13 @@
 #[cfg(test)]
 mod bank_tests;
 #[cfg(test)]
+mod desk;
+#[cfg(test)]
+mod refusal_tests;
+#[cfg(test)]
 mod script_tests;
+#[cfg(test)]
+mod slip_tests;
 #[cfg(test)]
 mod word_tests;
 pub mod words;
