@@ -16,7 +16,8 @@ pub trait Bank {
     // the record of each item, by its number
     ghost cells: { Self → List (Record Self.Value) };
 
-    // the names of the lent memory that the bank stands on, so that the lender can tell what it holds afterwards
+    // the names of the lent memory that the bank stands on, so that the lender can tell what it holds afterwards;
+    // each function says that they stay, since no type can: whoever has a `&mut` may put another bank behind it
     ghost places: { Self → List GName } = { λ _. [] };
 
     /// How many items there are.

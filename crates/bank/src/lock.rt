@@ -7,6 +7,8 @@ use crate::limits::{MOST_PROCESSES, MOST_SEQUENCE};
 /// An owner, 0 for none, and a sequence number, always read and written together.
 #[derive(Clone, Copy, Debug, PartialEq, Eq)]
 pub struct Lock {
+    // a number with 0 for none, since a lock's word has it so and any of 256 owners may stand in lent memory: a rule of the
+    // project
     pub owner: u8,
     pub sequence: u64,
 }

@@ -28,13 +28,14 @@ pub struct AtLine {
 }
 
 impl Cause {
+    // a number, since that is what is printed
     /// The number of the refusal: 12 for what is no call line, else the store's.
     pub fn number(self) -> u8
         ensures { result ≡ cause_number self }
     {
         match self {
             Cause::NotACall => 12,
-            Cause::Store(refusal) => refusal.number(),
+            Cause::Store(refusal) => u8::from(refusal),
         }
     }
 }

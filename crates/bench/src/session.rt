@@ -21,11 +21,11 @@ use table::{Entry, Table};
 /// The most bytes of a script that are played.
 pub const MOST_INPUT: usize = 65_536;
 
-/// How many processes the player sets up.
-pub const PROCESSES: usize = 4;
+// How many processes the player sets up.
+pub(crate) const PROCESSES: usize = 4;
 
-/// How many transactions may be begun.
-pub const LIFE: u64 = 1_000;
+// How many transactions may be begun.
+const LIFE: u64 = 1_000;
 
 // Adds what is printed of a line.
 fn report(out: &mut String, line: usize, res: Result<Answer<u64>, Fault>) -> Result<(), AllocError>

@@ -12,6 +12,8 @@ use script::parse;
 use store::{Answer, Call, Store};
 use table::Table;
 
+// Store, bank and table come apart here and in a script's functions as they do in tickets.
+
 // Makes the call of a line.
 fn make<B: Bank>(
     store: &mut Store,

@@ -8,7 +8,7 @@ use crate::kind::Kind;
 use std::num::{f32_from_bits_with_nan, f32_to_bits_with_nan};
 
 /// Off, a speed, a tension or a count. A float that is not a number is one value, whatever its bits were.
-#[derive(Clone, Copy, Debug, Default, PartialEq)]
+#[derive(Clone, Copy, Debug, Default)]
 pub enum Setting {
     #[default]
     Off,
@@ -28,6 +28,7 @@ impl Kind for Setting {
 
     ghost back = { setting_back };
 
+    // the cases by their numbers in a word
     fn pack(self) -> u64 {
         match self {
             Setting::Off => 0,

@@ -48,6 +48,8 @@ pub fn word_in(words: &[u64], item: usize, part: Part) -> Option<u64>
     (item < items_in(words)).then(|| words[part.index(item)])
 }
 
+// Functions, since `From` between a lock and a word may not be written here: neither is a type of this crate.
+
 /// The lock that a word holds.
 pub fn lock_from(word: u64) -> Lock
     ensures { result ≡ lock_of word }

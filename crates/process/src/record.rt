@@ -2,6 +2,7 @@
 use rows::Place;
 use table::Sizes;
 
+// Not an Option of an ending: null is a status that other processes read, one of three that the step table names.
 /// How the latest transaction of a process stands.
 #[derive(Clone, Copy, PartialEq, Eq, Debug)]
 pub enum Status {

@@ -33,8 +33,10 @@ fn seen<V: Kind>(task: &Task<'_, V>, item: u8, lock: Lock) -> Place
     Place::L3 { item, lock }
 }
 
+// The table and the process's number come apart where an entry is put: a struct that lends the table would need both, and
+// a name for what it lends, at each of three calls.
 impl Process {
-    // Goes on at a place.
+    // Goes on at a place. (With the answer as a parameter, `go` and `wait` would be one, and eighteen rows would name it.)
     fn go<V: Kind>(&mut self, place: Place) -> Answer<V>
         ensures process { self.new ≡ placed self.old place }
         ensures answer { result ≡ Answer.Going }
@@ -62,7 +64,8 @@ impl Process {
         answer
     }
 
-    // Ends a read: the entry after the read set joins it.
+    // Ends a read: the entry after the read set joins it. That there is room is asked of the three functions that end a
+    // read and shown once, in `run`; a type for it would be a second Process.
     fn end_read(&mut self)
         requires { self.old.sizes.reads < 8 }
         ensures { self.new ≡ read_one self.old }
@@ -220,7 +223,8 @@ impl Process {
         Some(self.run(bank, table, me, owned))
     }
 
-    // Runs the row: asks the bank, and goes on from place and reply.
+    // Runs the row: asks the bank, and goes on from place and reply. They are matched together, as the step table is read:
+    // a rule of the project.
     fn run<B: Bank>(
         &mut self,
         bank: &mut B,
@@ -239,9 +243,9 @@ impl Process {
             (&mut Place::R2 { item, .. }, Reply::Said(true)) => self.go(Place::R3 { item }),
             (&mut Place::R2 { item, .. }, Reply::Said(false)) => self.wait(Place::R1 { item }),
             (&mut Place::R3 { item }, Reply::Lock(lock)) => self.go(Place::R4 { item, lock }),
-            (&mut Place::R4 { item, lock }, Reply::Value(value)) => {
-                self.fetch(table, me, item, lock, value)
-            }
+            (&mut Place::R4 { item, lock }, Reply::Value(v)) => self.fetch(
+                table, me, item, lock, v,
+            ),
             (&mut Place::R5 { .. }, _) => self.settle(table, me, owned),
             (&mut Place::D1 { at, abort }, Reply::Count(count)) => {
                 self.go(Place::D2 { at, count, abort })

@@ -78,6 +78,8 @@ fn numbers<const N: usize>(rest: &[u8]) -> Option<[u32; N]>
     left.is_empty().then_some(found)
 }
 
+// A line is taken apart by `let .. else` here, and not by `ok_or` and `?`: a rule of the project.
+
 // The process that follows the letter of a call that takes no more.
 fn process(rest: &[u8]) -> Result<usize, NotACall>
     ensures { elim result [ Ok p ↦ exactly 1 (behind rest.now) ≡ Some (p ∷ []) | Err e ↦ exactly 1 (behind rest.now) ≡ None ] }
@@ -176,7 +178,7 @@ pub fn next_line(input: &[u8]) -> Option<Cut<'_>>
 }
 
 /// The lines of an input, one after the other.
-#[derive(Clone, Copy, Debug)]
+#[derive(Debug, Drop)]
 pub struct Lines<'a> {
     rest: &'a [u8],
 }

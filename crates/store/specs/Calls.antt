@@ -1,5 +1,6 @@
 -- The calls: on which grounds each is refused, in order, and what an accepted one does.
 use Rattle.std.specs.Prelude.{ℕ, ◌+◌, ◌-◌, ◌*◌, Bool, true, false, cond, not, ◌&&◌, ◌||◌, List, [], ◌∷◌, ◌++◌, map, length, replicate, Some, None, Option, ◌==◌, nat_le, nat_lt}
+use Rattle.std.specs.List.{list_any, enumerate_from}
 use Rattle.bank.specs.Limits.{most_items, most_processes, most_sequence, set_size}
 use Rattle.bank.specs.declared.record.Record.{Record}
 use Rattle.table.specs.Tasks.{in_reads, in_writes, write_slot}
@@ -43,10 +44,9 @@ or_else (Some n) second = Some n
 abbrev pub holds_up : ℕ → Process → ℕ → Bool
 holds_up at q p = not (at == p) && (traits q.place).owner == p
 
--- one of the processes, numbered from `at` on, holds up p
-abbrev pub remembered : ℕ → List Process → ℕ → Bool
-remembered at [] p = false
-remembered at (q ∷ qs) p = holds_up at q p || remembered (at + 1) qs p
+-- one of the processes, numbered from 1 on, holds up p
+abbrev pub remembered : List Process → ℕ → Bool
+remembered qs p = list_any (λ x. holds_up (x.0 + 1) x.1 p) (enumerate_from 0 qs)
 
 abbrev pub outside : ℕ → ℕ → ℕ → Bool
 outside low high n = nat_lt n low || nat_lt high n
@@ -82,7 +82,7 @@ module _ {V : Type 0} where
   open_grounds s p = known_grounds s p ++ ground 4 (not (open_at s p)) ∷ []
 
   abbrev pub begin_grounds : Memory V → ℕ → List Ground
-  begin_grounds s p = known_grounds s p ++ ground 3 (open_at s p) ∷ ground 7 (remembered 1 s.processes p) ∷ ground 8 (s.life == 0) ∷ []
+  begin_grounds s p = known_grounds s p ++ ground 3 (open_at s p) ∷ ground 7 (remembered s.processes p) ∷ ground 8 (s.life == 0) ∷ []
 
   abbrev pub step_grounds : Memory V → ℕ → List Ground
   step_grounds s p = open_grounds s p ++ ground 6 (not (under_way_at s p)) ∷ []

@@ -18,6 +18,7 @@ use rows::Place;
 use table::{Entry, Part, Table};
 use upkeep::clear;
 
+// Store, bank and table come apart in each call: a call may be handed any bank and any table, and refuses one too short.
 impl Store {
     /// Begins a transaction: both sets are empty and the status is null.
     pub fn begin<B: Bank>(
@@ -193,7 +194,8 @@ impl Store {
         Ok(())
     }
 
-    // Reads an item that there is.
+    // Reads an item that there is. That there is the process is asked here, of the next function and of `replace`, and shown by
+    // the checks: a number with that fact as a type would be taken apart at each use.
     fn read_item<V: Kind>(
         &mut self,
         table: &Table<'_, V>,
@@ -205,10 +207,7 @@ impl Store {
     {
         let old = self.processes[process - 1];
         let task = table.task(process as u8, old.sizes);
-        if let Some(entry) = task.find(Part::Writes, item) {
-            return Ok(Answer::Value(entry.value));
-        }
-        if let Some(entry) = task.find(Part::Reads, item) {
+        if let Some(entry) = task.found(item) {
             return Ok(Answer::Value(entry.value));
         }
         if old.sizes.reads as usize >= SET_SIZE {

@@ -15,7 +15,7 @@ use process::{Process, Status};
 use rows::Place;
 use table::{ENTRIES, Entry, Part, Table};
 
-// The owner that a process remembers at a place, or 0.
+// The owner that a process remembers at a place, or 0: an Option would be turned into 0 again at its one use.
 fn remembers(place: Place) -> u8
     ensures { result ≡ (traits place).owner }
 {
@@ -37,14 +37,12 @@ fn holds_up(at: usize, process: Process, p: usize) -> bool
 
 // Whether one of the processes holds up p.
 fn remembered(processes: &[Process], p: usize) -> bool
-    ensures { result ≡ remembered_def 1 processes.now p }
+    ensures { result ≡ remembered_def processes.now p }
 {
-    for (k, q) in processes.iter().enumerate() {
-        if holds_up(k + 1, *q, p) {
-            return true;
-        }
-    }
-    false
+    processes
+        .iter()
+        .enumerate()
+        .any(|(k, process)| holds_up(k + 1, *process, p))
 }
 
 impl Store {
@@ -56,7 +54,8 @@ impl Store {
         self.processes[..self.number as usize].get(at).copied()
     }
 
-    // Grounds 1 and 2, of every call of a process: else its record.
+    // Grounds 1 and 2, of every call of a process: else its record. Four checks say of the record whose it is: a Result has no
+    // place for a fact of its value, and a type with that fact would be opened at each use.
     fn known<V: Kind>(&self, table: &Table<'_, V>, process: usize) -> Result<Process, Refusal>
         ensures refusal { refused_with result ≡ first_ground (known_grounds (memory self.now (entries_of table.now)) process) }
         ensures record { IfOk result (λ q. q ≡ process_def (memory self.now (entries_of table.now)) process) }
@@ -99,7 +98,8 @@ impl Store {
         Ok(())
     }
 
-    // Grounds 1, 2, 4 and 6.
+    // Grounds 1, 2, 4 and 6. This and the next take idle and under way the other way round; one function for both would be
+    // told which, and match on four cases in place of two.
     pub(crate) fn check_step<V: Kind>(
         &self,
         table: &Table<'_, V>,

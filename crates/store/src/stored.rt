@@ -9,6 +9,7 @@ use process::Process;
 /// The processes, how many of them there are, and how many begins are left.
 #[derive(Drop)]
 pub struct Store {
+    // fixed memory, as all of the store: a place for each process that there may be, and how many there are
     pub(crate) processes: [Process; MOST_PROCESSES as usize],
     pub(crate) number: u8,
     pub(crate) life: u64,

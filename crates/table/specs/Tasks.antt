@@ -1,5 +1,6 @@
 -- A task: what a process has of the working table, and what is asked of it.
 use Rattle.std.specs.Prelude.{ℕ, ◌+◌, List, Some, None, Option}
+use Rattle.std.specs.Option.{option_or}
 use Rattle.table.specs.declared.entry.Entry.{Entry}
 use Rattle.table.specs.declared.entry.Part.{Part}
 use Rattle.table.specs.declared.entry.Part.TheVariants.{Reads, Writes}
@@ -46,6 +47,10 @@ module _ {V : Type 0} (t : Task V) where
 
   abbrev pub in_writes : ℕ → Option (Entry V)
   in_writes i = find i t.writes
+
+  -- what a read of the item finds: the write set's entry, else the read set's
+  abbrev pub found : ℕ → Option (Entry V)
+  found i = option_or (in_writes i) (in_reads i)
 
   abbrev pub write_slot : ℕ → ℕ
   write_slot i = slot i t.writes

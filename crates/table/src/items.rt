@@ -5,6 +5,7 @@ ghost use Rattle.table.specs.Sets.{pushed};
 use bank::SET_SIZE;
 use std::marker::Model;
 
+// Of our own, though the kit has such a vector: nothing is trusted here but the toolchain and its standard library.
 /// Up to eight items, in order.
 #[derive(Drop)]
 pub struct Items {

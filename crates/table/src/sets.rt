@@ -18,6 +18,7 @@ pub fn entry_in<V: Kind>(entries: &[Entry<V>], at: usize) -> Entry<V>
 pub fn put_in<V: Kind>(entries: &mut [Entry<V>], at: usize, entry: Entry<V>)
     ensures { entries.new ≡ slice_set entries.old at entry }
 {
+    // by index: after `get_mut` a proof knows no element of the slice
     if at < entries.len() {
         entries[at] = entry;
     }
@@ -56,7 +57,8 @@ fn place_in<V: Kind>(set: &[Entry<V>], item: u8) -> Option<usize>
     set.iter().position(|entry| entry.item == item)
 }
 
-// The lower of an item and the best so far, among those not below `from`.
+// The lower of an item and the best so far, among those not below `from`. (As a chain of `filter` and `min` over both
+// sets: tried, the proof did not close.)
 fn lower_of(from: usize, item: u8, best: Option<u8>) -> Option<u8>
     ensures { result ≡ lower from item best }
 {
@@ -78,6 +80,7 @@ pub fn lowest_in<V: Kind>(set: &[Entry<V>], from: usize, best: Option<u8>) -> Op
 }
 
 // The items of the first eight entries of the set.
+#[tactic(auto, using(crate::proofs::Pushing::items_more))]
 pub fn items_in<V: Kind>(set: &[Entry<V>]) -> Items
     ensures { result ≡ take set_size (map item_of set.now) }
 {

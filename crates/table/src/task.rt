@@ -1,8 +1,8 @@
 //! What a process has of the table.
 ghost use Rattle.std.specs.Prelude.{◌≡◌, ◌+◌, ◌≤◌, map, length, take};
 ghost use Rattle.bank.specs.Limits.{set_size};
-ghost use Rattle.table.specs.Sets.{find, item_of, size_of};
-ghost use Rattle.table.specs.Tasks.{seen, set_at, write_slot, next_item, unlock_sequence};
+ghost use Rattle.table.specs.Sets.{find, item_of};
+ghost use Rattle.table.specs.Tasks.{seen, set_at, found, write_slot, next_item, unlock_sequence};
 
 use crate::entry::{Entry, Part, Sizes};
 use crate::items::Items;
@@ -54,6 +54,17 @@ impl<'t, V: Kind> Task<'t, V> {
         find_in(self.set(part), item)
     }
 
+    /// The entry that a read of the item finds: the write set's, else the read set's.
+    pub fn found(&self, item: u8) -> Option<Entry<V>>
+        ensures { result ≡ found (seen V.blank self.now) item }
+    {
+        let written = self.find(Part::Writes, item);
+        if written.is_some() {
+            return written;
+        }
+        self.find(Part::Reads, item)
+    }
+
     /// Where the item stands in the write set, or where that ends.
     pub fn write_slot(&self, item: u8) -> u8
         ensures { result ≡ write_slot (seen V.blank self.now) item }
@@ -73,11 +84,7 @@ impl<'t, V: Kind> Task<'t, V> {
     pub fn unlock_sequence(&self, item: u8) -> u64
         ensures { result ≡ unlock_sequence (seen V.blank self.now) item }
     {
-        if let Some(entry) = self.find(Part::Writes, item) {
-            return entry.sequence;
-        }
-        self.find(Part::Reads, item)
-            .map_or(0, |entry| entry.sequence)
+        self.found(item).map_or(0, |entry| entry.sequence)
     }
 
     /// The items of the first eight entries of the write set.

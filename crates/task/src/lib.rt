@@ -48,6 +48,8 @@ impl From<ClosingTicket> for Unfinished {
     }
 }
 
+// Store, bank and table come apart here as they do in tickets.
+
 /// Writes one item in a transaction of its own, with so many steps for the commit.
 /// Where the write is refused, the transaction is aborted.
 pub fn put<B: Bank>(

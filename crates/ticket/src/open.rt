@@ -41,7 +41,8 @@ impl Ticket<Open> {
         })
     }
 
-    // The closing ticket of a transaction whose end has started; of one whose end was refused, this one.
+    // The closing ticket of a transaction whose end has started; of one whose end was refused, this one. Whose it is, this and
+    // the two public ends say: the ticket before is gone by then, so no field of the new one can name it.
     fn close<V: Copy>(self, started: Result<Answer<V>, Refusal>) -> Result<ClosingTicket, Refused>
         ensures told { closing_told result ≡ told_as {V = V} going started }
         ensures ticket { holder_of result ≡ self.process }

@@ -50,6 +50,8 @@ impl<S: Stage> Drop for Ticket<S> {
     }
 }
 
+// Store, bank and table come apart, as in the store's calls: where a struct that lends all three ends, a proof no longer
+// knows what the table holds (tried).
 impl<S: Stage> Ticket<S> {
     /// The number of the process whose transaction it is.
     pub fn process(&self) -> usize
