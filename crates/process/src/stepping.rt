@@ -33,10 +33,10 @@ fn seen<V: Kind>(task: &Task<'_, V>, item: u8, lock: Lock) -> Place
     Place::L3 { item, lock }
 }
 
-// The table and the process's number come apart where an entry is put: a struct that lends the table would need both, and
-// a name for what it lends, at each of three calls.
+// Bank and table come apart as in the store's calls, and the process's number from the table where an entry is put: a struct
+// that lends the table would need both, and a name for what it lends, at each of three calls.
 impl Process {
-    // Goes on at a place. (With the answer as a parameter, `go` and `wait` would be one, and eighteen rows would name it.)
+    // Goes on at a place. (With the answer as a parameter, `go` and `wait` would be one, and eighteen calls would name it.)
     fn go<V: Kind>(&mut self, place: Place) -> Answer<V>
         ensures process { self.new ≡ placed self.old place }
         ensures answer { result ≡ Answer.Going }
@@ -260,10 +260,8 @@ impl Process {
             (&mut Place::L3 { item, lock }, _) => {
                 self.go(Place::compared(task, item, sequence_or(lock.sequence, owned)))
             }
-            (&mut Place::L4 { item, sequence }, Reply::Said(true)) => {
-                self.lock(table, me, item, sequence)
-            }
-            (&mut Place::L4 { item, .. }, _) => self.wait(Place::L1 { item }),
+            (&mut Place::L4 { item, .. }, Reply::Said(false)) => self.wait(Place::L1 { item }),
+            (&mut Place::L4 { item, sequence }, _) => self.lock(table, me, item, sequence),
             (&mut Place::K, Reply::Said(true)) => self.commit(),
             (&mut Place::K, Reply::Said(false)) => Answer::Waiting,
             (&mut Place::W { at }, _) => self.write_after(task, at),
