@@ -4,7 +4,7 @@ use Rattle.bank.specs.declared.record.Record.{Record}
 use Rattle.table.specs.declared.entry.Entry.{Entry}
 use Rattle.script.specs.Grammar.{lines_of, is_line_feed, onto}
 use Rattle.store.specs.Model.{State}
-use Rattle.bench.specs.Plays.{line_turn, lines_after, printed, most_input, started, script_lines, Reaches, Holds, HoldsSome}
+use Rattle.bench.specs.Plays.{line_turn, lines_after, printed, most_input, started, script_lines, Reaches, HoldsSome}
 use Rattle.bench.specs.Texts.{line_text}
 
 fewer : (b : ℕ) (ls : List (List ℕ)) (n : ℕ) → length ls ≤ n → length (onto b ls) ≤ n + 1
@@ -60,10 +60,3 @@ module _ {V : Type 0} (blank : V) (pack : V → ℕ) (unpack : ℕ → V) (cs : 
             (subst (λ (x : List ℕ). Reaches blank pack unpack after (lines_of x) t) b r);
         holds = (c, d);
       }
-
-  -- and what all lines leave
-  pub holds_all : after ≡ started cs es → bytes ≡ take most_input input → t ≡ lines_after blank pack unpack after (lines_of bytes)
-      → (cs' : List (Record V)) (es' : List (Entry V)) → cs' ≡ t.cells → es' ≡ t.memory.entries → Holds (lines_after blank pack unpack (started cs es) (script_lines input)) cs' es'
-  holds_all e b r cs' es' c d =
-      let all : t ≡ lines_after blank pack unpack (started cs es) (script_lines input) = r ∙ (λ i. lines_after blank pack unpack (e i) (lines_of (b i))) in
-      (c ∙ ap (λ (s : State V). s.cells) all, d ∙ ap (λ (s : State V). s.memory.entries) all)

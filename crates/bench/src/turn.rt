@@ -44,6 +44,7 @@ pub fn play_line<B: Bank>(
     ensures bank { B.places bank.new ≡ B.places bank.old }
     ensures table { place_of table.new ≡ place_of table.old }
 {
+    // `let .. else` with the fault: a rule of the project
     let Ok(call) = parse(line) else {
         return Err(Fault {
             line: number,

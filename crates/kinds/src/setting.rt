@@ -7,6 +7,7 @@ ghost use Rattle.kinds.specs.SettingsLemmas.{setting_back};
 use crate::kind::Kind;
 use std::num::{f32_from_bits_with_nan, f32_to_bits_with_nan};
 
+// No comparison: a derived one would tell a float that is not a number from itself.
 /// Off, a speed, a tension or a count. A float that is not a number is one value, whatever its bits were.
 #[derive(Clone, Copy, Debug, Default)]
 pub enum Setting {
@@ -28,7 +29,7 @@ impl Kind for Setting {
 
     ghost back = { setting_back };
 
-    // the cases by their numbers in a word
+    // the cases by number, since the format of a word has them so
     fn pack(self) -> u64 {
         match self {
             Setting::Off => 0,
@@ -38,6 +39,7 @@ impl Kind for Setting {
         }
     }
 
+    // the cases by number, as in `pack`
     fn unpack(word: u64) -> Setting {
         let low = (word % (1 << 32)) as u32;
         match (word >> 56) as u8 {

@@ -14,7 +14,7 @@ const MOST_WORDS: usize = ITEM_WORDS * MOST_ITEMS;
 
 /// What each of the three words of an item holds, in their order.
 #[derive(Clone, Copy)]
-pub enum Part {
+pub(crate) enum Part {
     Lock,
     Count,
     Value,
@@ -22,7 +22,7 @@ pub enum Part {
 
 impl Part {
     /// Where the item's word of it stands.
-    pub fn index(self, item: usize) -> usize
+    pub(crate) fn index(self, item: usize) -> usize
         requires { item < 64 }
         ensures { result ≡ 3 * item + offset self }
     {
@@ -31,7 +31,7 @@ impl Part {
 }
 
 /// How many items the words make.
-pub fn items_in(words: &[u64]) -> usize
+pub(crate) fn items_in(words: &[u64]) -> usize
     ensures { result ≡ item_count words.now }
 {
     if words.len() <= MOST_WORDS && words.len() % ITEM_WORDS == 0 {
@@ -42,7 +42,7 @@ pub fn items_in(words: &[u64]) -> usize
 }
 
 /// The word of a part of the item, if there is the item.
-pub fn word_in(words: &[u64], item: usize, part: Part) -> Option<u64>
+pub(crate) fn word_in(words: &[u64], item: usize, part: Part) -> Option<u64>
     ensures { result ≡ then_some (has_words words.now item) (slice_index words.now (3 * item + offset part)) }
 {
     (item < items_in(words)).then(|| words[part.index(item)])
@@ -51,7 +51,7 @@ pub fn word_in(words: &[u64], item: usize, part: Part) -> Option<u64>
 // Functions, since `From` between a lock and a word may not be written here: neither is a type of this crate.
 
 /// The lock that a word holds.
-pub fn lock_from(word: u64) -> Lock
+pub(crate) fn lock_from(word: u64) -> Lock
     ensures { result ≡ lock_of word }
 {
     Lock {
@@ -61,7 +61,7 @@ pub fn lock_from(word: u64) -> Lock
 }
 
 /// The word of a lock that a bank stores.
-pub fn word_from(lock: Lock) -> u64
+pub(crate) fn word_from(lock: Lock) -> u64
     requires { IsTrue (storable lock) }
     ensures word { result ≡ lock_word lock }
     ensures back { lock_of result ≡ lock }
@@ -70,7 +70,7 @@ pub fn word_from(lock: Lock) -> u64
 }
 
 /// The count that a word holds.
-pub fn count_from(word: u64) -> u8
+pub(crate) fn count_from(word: u64) -> u8
     ensures { result ≡ count_of word }
 {
     (word >> 56) as u8

@@ -63,6 +63,7 @@ impl<V> Call<V> {
     }
 }
 
+// Store, bank and table come apart here as in the other calls.
 impl Store {
     /// Makes one call.
     pub fn call<B: Bank>(

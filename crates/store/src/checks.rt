@@ -45,6 +45,7 @@ fn remembered(processes: &[Process], p: usize) -> bool
         .any(|(k, process)| holds_up(k + 1, *process, p))
 }
 
+// Store, bank and table come apart here as in the calls.
 impl Store {
     // The record of a process, if there is one of this number.
     pub(crate) fn record(&self, process: usize) -> Option<Process>

@@ -1,18 +1,8 @@
 use Rattle.std.proofs.Common.{◌≡◌, rules}
-use Rattle.std.proofs.lemmas.Result.{on_ok_weaker}
 use Rattle.store.specs.Model.{state}
 use Rattle.bench.specs.Plays.{started}
-use Rattle.bench.proofs.Outputs.{holds_some, holds_all}
+use Rattle.bench.proofs.Outputs.{holds_some}
 use Rattle.bench.proofs.session.play.Goals as goal
-
-pub returns-clause-whole : goal.returns-clause-whole
-returns-clause-whole g c =
-    let after : state c.start-store.new.bank.records.now c.start-store.result c.start-store.new.table.entries.now ≡ started c.args.records.now c.args.entries.now = search rules in
-    on_ok_weaker c.play_lines.result
-    (λ all.
-    holds_all g.V.Kind.blank g.V.Kind.packing g.V.Kind.unpacking c.args.records.now c.args.entries.now c.args.input.now c.first_bytes.result.now _ _ after c.first_bytes.ensures all _ _
-    (search rules) (search rules))
-    c.play_lines.ensures.whole
 
 pub returns-clause-part : goal.returns-clause-part
 returns-clause-part g c =
