@@ -1,0 +1,6 @@
+pub mod Ages
+pub mod Endings
+pub mod History
+pub mod Invariants
+pub mod Notes
+pub mod Reruns
