@@ -6,6 +6,8 @@ mod bank_tests;
 #[cfg(test)]
 mod desk;
 #[cfg(test)]
+mod history_tests;
+#[cfg(test)]
 mod refusal_tests;
 #[cfg(test)]
 mod script_tests;
