@@ -64,9 +64,7 @@ pub trait Bank {
     fn all_zero(&self, items: &[usize]) -> bool
         ensures { result ≡ all_zero Self.Value.Kind.blank (cells self.now) (take set_size items.now) }
     {
-        items
-            .iter()
-            .take(SET_SIZE)
-            .all(|item| self.read_count(*item) == 0)
+        let asked = items.get(..SET_SIZE).unwrap_or(items);
+        asked.iter().all(|item| self.read_count(*item) == 0)
     }
 }

@@ -66,7 +66,7 @@ impl<V: Kind> Bank for PackedBank<'_, V> {
     }
 
     fn read_value(&self, item: usize) -> V {
-        word_in(self.words, item, Part::Value).map_or(V::blank(), |word| V::unpack(word))
+        word_in(self.words, item, Part::Value).map_or_else(|| V::blank(), |word| V::unpack(word))
     }
 
     fn read_count(&self, item: usize) -> u8 {

@@ -2,6 +2,7 @@
 #![tactic(auto)]
 
 ghost use Rattle.std.specs.Prelude.{◌≡◌, ◌&&◌, [], ◌∷◌, slice_set, cond, IsTrue};
+ghost use Rattle.std.specs.Fn.{FnOnceReturnsAtMut};
 ghost use Rattle.record_bank.specs.Lent.{records_of, place_of};
 ghost use Rattle.bank.specs.Cells.{cell_at, has};
 
@@ -30,28 +31,22 @@ impl<'a, V: Kind> RecordBank<'a, V> {
         self.records
             .get(item)
             .copied()
-            .unwrap_or(Record::new(V::blank()))
+            .unwrap_or_else(|| Record::new(V::blank()))
     }
 
-    // Makes of the item's record what `change` says. Answers whether there is the item and it may; else nothing changes.
-    fn update<F: FnOnce(Record<V>) -> Record<V>>(
-        &mut self,
-        item: usize,
-        may: bool,
-        change: F,
-    ) -> bool
+    // Changes the item's record, in place. Answers whether there is the item and it may; else nothing changes.
+    fn update<F: FnOnce(&mut Record<V>)>(&mut self, item: usize, may: bool, change: F) -> bool
         requires { F.IsAlwaysCallable change }
         ensures answer { result ≡ (has (records_of self.old) item && may) }
-        ensures by { IsTrue result → F.post change (cell_at V.blank (records_of self.old) item) (cell_at V.blank (records_of self.new) item) }
+        ensures by { IsTrue result → FnOnceReturnsAtMut F.FnOnce change (cell_at V.blank (records_of self.old) item) tt (cell_at V.blank (records_of self.new) item) }
         ensures after { records_of self.new ≡ cond result (slice_set (records_of self.old) item (cell_at V.blank (records_of self.new) item)) (records_of self.old) }
         ensures stays { place_of self.new ≡ place_of self.old }
     {
-        let done = may && item < self.items();
-        if done {
-            // by index: after `get_mut` a proof knows no element of the slice (tried; it did not close)
-            self.records[item] = change(self.records[item]);
+        if !may || item >= self.records.len() {
+            return false;
         }
-        done
+        change(&mut self.records[item]);
+        true
     }
 }
 
@@ -80,11 +75,11 @@ impl<V: Kind> Bank for RecordBank<'_, V> {
 
     fn write_lock(&mut self, item: usize, lock: Lock) -> bool {
         let may = lock.is_storable();
-        self.update(item, may, |old| Record { lock, ..old })
+        self.update(item, may, |record| record.lock = lock)
     }
 
     fn write_value(&mut self, item: usize, value: V) -> bool {
-        self.update(item, true, |old| Record { value, ..old })
+        self.update(item, true, |record| record.value = value)
     }
 
     fn swap_lock(&mut self, item: usize, expected: Lock, lock: Lock) -> bool {
@@ -93,6 +88,6 @@ impl<V: Kind> Bank for RecordBank<'_, V> {
 
     fn swap_count(&mut self, item: usize, expected: u8, count: u8) -> bool {
         let may = count <= MOST_PROCESSES && self.read_count(item) == expected;
-        self.update(item, may, |old| Record { count, ..old })
+        self.update(item, may, |record| record.count = count)
     }
 }
