@@ -1,6 +1,6 @@
 -- The entries of the working table, and the sets that they make up.
 -- A process has sixteen entries: eight for its read set, then eight for its write set.
-use Rattle.std.specs.Prelude.{ℕ, ◌+◌, ◌-◌, ◌*◌, cond, List, [], ◌∷◌, ◌++◌, length, take, drop, Some, None, Option, ◌==◌, nat_lt, slice_index_or, unwrap_or}
+use Rattle.std.specs.Prelude.{ℕ, ◌+◌, ◌-◌, ◌*◌, cond, List, length, take, drop, Some, None, Option, ◌==◌, nat_lt, slice_index_or, unwrap_or}
 use Rattle.std.specs.List.{find as first_that, fold, position_from}
 use Rattle.bank.specs.Limits.{set_size}
 use Rattle.table.specs.declared.entry.Entry.{Entry}
@@ -17,10 +17,6 @@ start p Writes = 2 * set_size * (p - 1) + set_size
 abbrev pub size_of : Part → Sizes → ℕ
 size_of Reads z = z.reads
 size_of Writes z = z.writes
-
--- one more item behind others, where there is room for it
-abbrev pub pushed : ℕ → List ℕ → List ℕ
-pushed i is = cond (nat_lt (length is) set_size) (is ++ i ∷ []) is
 
 -- the lower of an item and the best so far, among those not below `from`
 abbrev pub lower : ℕ → ℕ → Option ℕ → Option ℕ

@@ -1,17 +1,15 @@
 //! What a set, a run of entries, holds.
-ghost use Rattle.std.specs.Prelude.{◌≡◌, ◌≤◌, ◌<◌, map, length, take, slice_set, IfSome};
-ghost use Rattle.bank.specs.Limits.{set_size};
-ghost use Rattle.table.specs.Sets.{entry_at, set_of, find, place, slot, lower, lowest, item_of};
+ghost use Rattle.std.specs.Prelude.{◌≡◌, ◌≤◌, ◌<◌, length, slice_set, IfSome};
+ghost use Rattle.table.specs.Sets.{entry_at, set_of, find, place, slot, lower, lowest};
 
 use crate::entry::{Entry, Part};
-use crate::items::Items;
 use kinds::Kind;
 
 // The entry at an index; past the end a blank one.
 pub fn entry_in<V: Kind>(entries: &[Entry<V>], at: usize) -> Entry<V>
     ensures { result ≡ entry_at V.blank entries.now at }
 {
-    entries.get(at).copied().unwrap_or(Entry::blank())
+    entries.get(at).copied().unwrap_or_else(|| Entry::blank())
 }
 
 // Puts an entry at an index; past the end nothing is done.
@@ -77,16 +75,4 @@ pub fn lowest_in<V: Kind>(set: &[Entry<V>], from: usize, best: Option<u8>) -> Op
 {
     set.iter()
         .fold(best, |found, entry| lower_of(from, entry.item, found))
-}
-
-// The items of the first eight entries of the set.
-#[tactic(auto, using(crate::proofs::Pushing::items_more))]
-pub fn items_in<V: Kind>(set: &[Entry<V>]) -> Items
-    ensures { result ≡ take set_size (map item_of set.now) }
-{
-    let mut items = Items::new();
-    for entry in set {
-        items.push(entry.item as usize);
-    }
-    items
 }

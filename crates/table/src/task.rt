@@ -5,8 +5,8 @@ ghost use Rattle.table.specs.Sets.{find, item_of};
 ghost use Rattle.table.specs.Tasks.{seen, set_at, found, write_slot, next_item, unlock_sequence};
 
 use crate::entry::{Entry, Part, Sizes};
-use crate::items::Items;
-use crate::sets::{entry_in, find_in, items_in, lowest_in, set_in, slot_in};
+use crate::items::{Items, items_in};
+use crate::sets::{entry_in, find_in, lowest_in, set_in, slot_in};
 use kinds::Kind;
 
 /// A process's number and its two sets, over the table.
