@@ -37,15 +37,17 @@ fn leading_digits(s: &[u8]) -> usize
     s.iter().take_while(|byte| byte.is_ascii_digit()).count()
 }
 
-// The number that one to nine digits write.
-#[tactic(auto, using(crate::proofs::Digits::text, crate::proofs::Digits::parsed))]
-fn value(digits: &[u8]) -> Option<u32>
+// The number that at most nine digits write. (With std's `parse` in its place, a whole line took twice the time.)
+fn value(digits: &[u8]) -> u32
     requires each { (k : ℕ) → k < length digits.now → is_digit (slice_index digits.now k) ≡ true }
-    requires few { (1 ≤ length digits.now) × (length digits.now ≤ 9) }
-    ensures { result ≡ Some (numeral 10 digits.now) }
+    requires few { length digits.now ≤ 9 }
+    ensures { result ≡ numeral 10 digits.now }
 {
-    let text = str::from_utf8(digits).ok()?;
-    text.parse().ok()
+    let mut sum = 0u32;
+    for byte in digits {
+        sum = sum * 10 + u32::from(*byte - b'0');
+    }
+    sum
 }
 
 // The number behind one space in front of `s`, and what follows it.
@@ -60,7 +62,7 @@ fn number(s: &[u8]) -> Option<(u32, &[u8])>
         return None;
     }
     let (digits, rest) = rest.split_at(width);
-    Some((value(digits)?, rest))
+    Some((value(digits), rest))
 }
 
 // The numbers that make up `rest`, each behind one space.
