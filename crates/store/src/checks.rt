@@ -1,5 +1,5 @@
 //! On which grounds a call is refused: each check goes down its list, and the first that holds counts.
-ghost use Rattle.std.specs.Prelude.{◌≡◌, IfOk};
+ghost use Rattle.std.specs.Prelude.{◌≡◌, ◌<◌, IfOk};
 ghost use Rattle.table.specs.Lent.{entries_of};
 ghost use Rattle.store.specs.Calls.{first_ground, known_grounds, open_grounds, begin_grounds, step_grounds, operation_grounds, item_refusal, set_up_grounds, holds_up, remembered as remembered_def};
 ghost use Rattle.store.specs.Model.{state, memory, record_of, process as process_def};
@@ -28,15 +28,19 @@ fn remembers(place: Place) -> u8
     }
 }
 
-// Whether a process, numbered `at`, remembers p and is not p itself.
+// Whether a process, numbered `at`, remembers p and is not p itself. No process is 0, so where it remembers none, nothing is
+// compared.
 fn holds_up(at: usize, process: Process, p: usize) -> bool
+    requires { 0 < p }
     ensures { result ≡ holds_up at process p }
 {
-    at != p && remembers(process.place) as usize == p
+    let owner = remembers(process.place);
+    owner != 0 && at != p && owner as usize == p
 }
 
 // Whether one of the processes holds up p.
 fn remembered(processes: &[Process], p: usize) -> bool
+    requires { 0 < p }
     ensures { result ≡ remembered_def processes.now p }
 {
     processes
