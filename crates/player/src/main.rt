@@ -2,12 +2,14 @@
 #![tactic(auto)]
 
 use bench::{MOST_INPUT, play_settings};
+use std::fmt;
 use std::io::Read;
 
 fn main(rt: HostRuntime) -> anyhow::Result<()> {
     let mut input = Vec::new(rt.alloc());
     rt.stdin().take(MOST_INPUT as u64).read_to_end(&mut input)?;
-    let out = play_settings(rt.alloc(), input.as_slice())?;
+    // where memory runs out, the program writes what it always wrote then: that a text could not be formatted
+    let out = play_settings(rt.alloc(), input.as_slice()).map_err(|_| fmt::Error)?;
     print!(rt; "{out}")?;
     Ok(())
 }
