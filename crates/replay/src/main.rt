@@ -12,7 +12,7 @@ const EXAMPLES: [&str; 7] = [
 fn replay(rt: &HostRuntime, name: &str) -> anyhow::Result<()> {
     let script = fs::read(rt, format!(in rt.alloc(); "{name}.script")?.as_str())?;
     let expected = fs::read_to_string(rt, format!(in rt.alloc(); "{name}.expected")?.as_str())?;
-    // where memory runs out, the program writes what it always wrote then: that a text could not be formatted
+    // where memory for the text runs out, the program writes what it always wrote then: that a text could not be formatted
     let out = play_settings(rt.alloc(), script.as_slice()).map_err(|_| fmt::Error)?;
     let lines = out.as_str().lines().count();
     if out.as_str() == expected.as_str() {

@@ -28,8 +28,8 @@ fn remembers(place: Place) -> u8
     }
 }
 
-// Whether a process, numbered `at`, remembers p and is not p itself. No process is 0, so where it remembers none, nothing is
-// compared.
+// Whether a process, numbered `at`, remembers p and is not p itself. No process is 0, so one that remembers none (0) is passed
+// over before it is compared with p.
 fn holds_up(at: usize, process: Process, p: usize) -> bool
     requires { 0 < p }
     ensures { result ≡ holds_up at process p }
